@@ -1,0 +1,3 @@
+// The names of fields, and the fields that each record can have.
+pub mod keys;
+pub mod table;
