@@ -1,2 +1,4 @@
 pub mod Faults
-pub mod Format
+pub mod Items
+pub mod Parts
+pub mod Reads

@@ -1,18 +1,15 @@
 // Lengths: of texts, byte parts, arrays and maps.
+ghost use mathlib.Core.Path.{_≡_};
+ghost use Prim.Native.Nat.{_^_, _≤_, _<_};
+ghost use lib.ListN.{length as long};
+ghost use Rattle.std.specs.Results.{Cases};
+ghost use Rattle.items.specs.Items.{a-length, all-causes, text-causes, value-causes};
+ghost use Rattle.items.specs.Reads.{Told, Gives};
 use crate::buffer::Buffer;
 use crate::fault::DecodeError;
 use crate::fault::ItemFault;
-use crate::marker::Marker;
-use crate::marker::Width;
-
-// What a length is the length of.
-#[derive(Clone, Copy)]
-pub enum Kind {
-    Text,
-    Bytes,
-    Array,
-    Map,
-}
+use crate::head::Head;
+use crate::head::Kind;
 
 // The causes of the ways in which a length can fail.
 #[derive(Clone, Copy)]
@@ -24,7 +21,9 @@ pub struct Causes {
 
 impl Causes {
     // One cause for all failures.
-    pub fn all(cause: DecodeError) -> Causes {
+    pub fn all(cause: DecodeError) -> Causes
+        ensures { λ r. ⌜ r ≡ all-causes cause ⌝ }
+    {
         Causes {
             nothing_left: cause,
             other_marker: cause,
@@ -33,7 +32,9 @@ impl Causes {
     }
 
     // The causes of a text's length.
-    pub fn of_text() -> Causes {
+    pub fn of_text() -> Causes
+        ensures { λ r. ⌜ r ≡ text-causes ⌝ }
+    {
         Causes {
             nothing_left: DecodeError::InvalidFormat,
             other_marker: DecodeError::InvalidType,
@@ -42,7 +43,9 @@ impl Causes {
     }
 
     // The causes of the length of a map of metrics or of byte parts.
-    pub fn of_values() -> Causes {
+    pub fn of_values() -> Causes
+        ensures { λ r. ⌜ r ≡ value-causes ⌝ }
+    {
         Causes {
             nothing_left: DecodeError::InvalidFormat,
             other_marker: DecodeError::InvalidType,
@@ -51,62 +54,62 @@ impl Causes {
     }
 }
 
-// Where a length stands: in the marker, or behind it.
+// A length, and the place behind its header.
 #[derive(Clone, Copy)]
-pub enum LengthForm {
-    Within(u8),
-    Behind(Width),
-}
-
-impl Marker {
-    // Where the length of this kind stands, or none for a marker of another kind.
-    pub fn length_form(self, kind: Kind) -> Option<LengthForm> {
-        match (kind, self) {
-            (Kind::Text, Marker::FixStr(n)) => Some(LengthForm::Within(n)),
-            (Kind::Text, Marker::Str(width)) => Some(LengthForm::Behind(width)),
-            (Kind::Bytes, Marker::Bin(width)) => Some(LengthForm::Behind(width)),
-            (Kind::Array, Marker::FixArray(n)) => Some(LengthForm::Within(n)),
-            (Kind::Array, Marker::Array(width)) => Some(LengthForm::Behind(width)),
-            (Kind::Map, Marker::FixMap(n)) => Some(LengthForm::Within(n)),
-            (Kind::Map, Marker::Map(width)) => Some(LengthForm::Behind(width)),
-            _ => None,
-        }
-    }
-}
-
-// A length, and how many bytes its header takes.
-#[derive(Clone, Copy)]
-pub struct Header {
+pub(crate) struct Header {
     pub length: u64,
-    pub size: usize,
+    pub next: usize,
 }
 
 impl<'a> Buffer<'a> {
     // The header of the next item, which is not passed over.
-    pub fn header(&self, kind: Kind, causes: Causes) -> Result<Header, ItemFault> {
-        let Some(marker) = self.marker() else {
+    pub(crate) fn header(&self, kind: Kind, causes: Causes) -> Result<Header, ItemFault>
+        ensures told { λ r. ⌜ Told (λ h. h .length) (λ h. h .next) r (a-length kind causes (now (now (self .entry) .window)) (now (self .entry) .pos)) ⌝ }
+        ensures bound { λ r. ⌜ Cases r (λ h. (h .next ≤ long (now (now (self .entry) .window))) × (h .length < 2 ^ 64)) (λ _. Unit {0}) ⌝ }
+    {
+        let Some(head) = self.head() else {
             return Err(self.fault(causes.nothing_left));
         };
-        match marker.length_form(kind) {
-            None => Err(self.fault(causes.other_marker)),
-            Some(LengthForm::Within(n)) => Ok(Header {
-                length: u64::from(n),
-                size: 1,
-            }),
-            Some(LengthForm::Behind(width)) => match self.content(width) {
-                None => Err(self.fault(causes.length_missing)),
-                Some(length) => Ok(Header {
-                    length,
-                    size: 1 + width.bytes(),
-                }),
-            },
+        match head {
+            Head::Length(other, n) => {
+                if !other.is(kind) {
+                    return Err(self.fault(causes.other_marker));
+                }
+                Ok(Header {
+                    length: u64::from(n),
+                    next: self.place() + 1,
+                })
+            }
+            Head::LengthBehind(other, width) => {
+                if !other.is(kind) {
+                    return Err(self.fault(causes.other_marker));
+                }
+                match self.content(width) {
+                    None => Err(self.fault(causes.length_missing)),
+                    Some(length) => Ok(Header {
+                        length,
+                        next: self.place() + 1 + width.bytes(),
+                    }),
+                }
+            }
+            Head::Null
+            | Head::Truth(_)
+            | Head::Positive(_)
+            | Head::Negative(_)
+            | Head::Unsigned(_)
+            | Head::Signed(_)
+            | Head::Float(_)
+            | Head::Other => Err(self.fault(causes.other_marker)),
         }
     }
 
     // Reads the length of an array or a map.
-    pub fn read_length(&mut self, kind: Kind, causes: Causes) -> Result<u64, ItemFault> {
+    pub fn read_length(&mut self, kind: Kind, causes: Causes) -> Result<u64, ItemFault>
+        ensures gives { λ r. ⌜ Gives (λ n. n) r (now (self .entry) .pos) (now (self .exit) .pos) (a-length kind causes (now (now (self .entry) .window)) (now (self .entry) .pos)) ⌝ }
+        ensures window { λ _. ⌜ now (self .exit) .window ≡ now (self .entry) .window ⌝ }
+    {
         let header = self.header(kind, causes)?;
-        self.advance(header.size);
+        self.pos = header.next;
         Ok(header.length)
     }
 }

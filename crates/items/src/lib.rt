@@ -1,9 +1,9 @@
 // Single MessagePack items, read from a window of bytes.
 pub mod buffer;
-pub mod double;
 pub mod fault;
+pub mod head;
 pub mod integer;
+pub mod item;
 pub mod length;
-pub mod marker;
 pub mod number;
 pub mod part;

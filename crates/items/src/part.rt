@@ -1,10 +1,19 @@
-// Texts, byte parts, truth values and null.
+// Texts, byte parts and truth values.
+ghost use mathlib.Core.Path.{_≡_};
+ghost use Prim.Native.Nat.{_+_, _≤_};
+ghost use lib.ListN.{length as long};
+ghost use denote.Ref.{now};
+ghost use Rattle.std.specs.Results.{Cases};
+ghost use Rattle.items.specs.Items.{a-piece, a-text, a-binary, a-truth};
+ghost use Rattle.items.specs.Parts.{piece-of};
+ghost use Rattle.items.specs.Reads.{Told, Gives};
 use crate::buffer::Buffer;
 use crate::fault::DecodeError;
 use crate::fault::ItemFault;
+use crate::head::Head;
+use crate::head::Kind;
 use crate::length::Causes;
-use crate::length::Kind;
-use crate::marker::Marker;
+use msgpack::text::is_text;
 
 // A text or a byte part of the window.
 #[derive(Clone, Copy)]
@@ -17,75 +26,77 @@ pub struct Part<'a> {
 }
 
 impl<'a> Buffer<'a> {
-    // The part that the next item is, with what is known of it, and the bytes that the item takes.
+    // The part that the next item is, which is not passed over; where its bytes are short, the cause given.
     fn next_part(
         &self,
         kind: Kind,
         causes: Causes,
         short: DecodeError,
-    ) -> Result<Part<'a>, ItemFault> {
+    ) -> Result<Part<'a>, ItemFault>
+        ensures told { λ r. ⌜ Told piece-of (λ p. p .start + long (now (p .bytes))) r (a-piece kind causes short (now (now (self .entry) .window)) (now (self .entry) .pos)) ⌝ }
+        ensures bound { λ r. ⌜ Cases r (λ p. p .start + long (now (p .bytes)) ≤ long (now (now (self .entry) .window))) (λ _. Unit {0}) ⌝ }
+    {
         let header = self.header(kind, causes)?;
-        let place = self.place();
-        let start = place.saturating_add(header.size);
-        match self.part(start, header.length as usize) {
-            None => Err(self.fault(short)),
-            Some(bytes) => Ok(Part {
-                bytes,
-                place,
-                start,
-            }),
+        let window = self.window;
+        let start = header.next;
+        let length = header.length as usize;
+        if length > window.len() - start {
+            return Err(self.fault(short));
         }
+        Ok(Part {
+            bytes: &window[start..start + length],
+            place: self.pos,
+            start,
+        })
     }
 
-    pub fn read_text(&mut self) -> Result<Part<'a>, ItemFault> {
+    pub fn read_text(&mut self) -> Result<Part<'a>, ItemFault>
+        ensures gives { λ r. ⌜ Gives piece-of r (now (self .entry) .pos) (now (self .exit) .pos) (a-text (now (now (self .entry) .window)) (now (self .entry) .pos)) ⌝ }
+        ensures window { λ _. ⌜ now (self .exit) .window ≡ now (self .entry) .window ⌝ }
+    {
         let part = self.next_part(Kind::Text, Causes::of_text(), DecodeError::IOError)?;
-        if std::str::from_utf8(part.bytes).is_err() {
+        if !is_text(part.bytes) {
             return Err(self.fault(DecodeError::Utf8Error));
         }
-        self.pass(part);
+        self.pos = part.start + part.bytes.len();
         Ok(part)
     }
 
-    pub fn read_bytes(&mut self) -> Result<Part<'a>, ItemFault> {
+    pub fn read_bytes(&mut self) -> Result<Part<'a>, ItemFault>
+        ensures gives { λ r. ⌜ Gives piece-of r (now (self .entry) .pos) (now (self .exit) .pos) (a-binary (now (now (self .entry) .window)) (now (self .entry) .pos)) ⌝ }
+        ensures window { λ _. ⌜ now (self .exit) .window ≡ now (self .entry) .window ⌝ }
+    {
         let part = self.next_part(
             Kind::Bytes,
             Causes::all(DecodeError::InvalidFormat),
             DecodeError::InvalidFormat,
         )?;
-        self.pass(part);
+        self.pos = part.start + part.bytes.len();
         Ok(part)
     }
 
-    // Goes on behind a part.
-    fn pass(&mut self, part: Part<'a>) {
-        let head = part.start.saturating_sub(part.place);
-        self.advance(head);
-        self.advance(part.bytes.len());
-    }
-
     // Reads a truth value; every failure has the cause given.
-    pub fn read_boolean(&mut self, cause: DecodeError) -> Result<bool, ItemFault> {
-        match self.marker() {
-            Some(Marker::True) => {
-                self.advance(1);
-                Ok(true)
+    pub fn read_boolean(&mut self, cause: DecodeError) -> Result<bool, ItemFault>
+        ensures gives { λ r. ⌜ Gives (λ b. b) r (now (self .entry) .pos) (now (self .exit) .pos) (a-truth cause (now (now (self .entry) .window)) (now (self .entry) .pos)) ⌝ }
+        ensures window { λ _. ⌜ now (self .exit) .window ≡ now (self .entry) .window ⌝ }
+    {
+        let Some(head) = self.head() else {
+            return Err(self.fault(cause));
+        };
+        match head {
+            Head::Truth(b) => {
+                self.pos += 1;
+                Ok(b)
             }
-            Some(Marker::False) => {
-                self.advance(1);
-                Ok(false)
-            }
-            _ => Err(self.fault(cause)),
-        }
-    }
-
-    // Passes over the next item if it is null, and says whether it was.
-    pub fn handle_null_marker(&mut self) -> bool {
-        match self.marker() {
-            Some(Marker::Nil) => {
-                self.advance(1);
-                true
-            }
-            _ => false,
+            Head::Null
+            | Head::Positive(_)
+            | Head::Negative(_)
+            | Head::Unsigned(_)
+            | Head::Signed(_)
+            | Head::Float(_)
+            | Head::Length(_, _)
+            | Head::LengthBehind(_, _)
+            | Head::Other => Err(self.fault(cause)),
         }
     }
 }

@@ -8,6 +8,7 @@ use Rattle.names.specs.declared.table.Name.{Name}
 use Rattle.names.specs.declared.table.Name.the-variants as names
 use Rattle.names.specs.declared.keys.AttributeAnyKey.{AttributeAnyKey}
 use Rattle.names.specs.declared.keys.AttributeAnyKey.the-variants as attribute
+use Rattle.names.specs.declared.keys.ValuesKey.{ValuesKey}
 use Rattle.names.specs.Names.{is-spelled}
 use Rattle.names.specs.declared.keys.SpanKey.{SpanKey}
 use Rattle.names.specs.declared.keys.SpanKey.the-variants as span
@@ -83,3 +84,7 @@ as-single (Some k) = Some (attribute.Single k)
 -- the field of an attribute: an array, or a field of an element
 abbrev pub attribute-with : List ℕ → Option AttributeAnyKey
 attribute-with bytes = cond (is-spelled names.ArrayValue bytes) (Some attribute.ArrayValue) (as-single (key-with element-name bytes element-keys))
+
+-- the only field of an array
+abbrev pub values-with : List ℕ → Option ValuesKey
+values-with bytes = cond (is-spelled names.Values bytes) (Some (record {})) None

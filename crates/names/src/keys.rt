@@ -1,7 +1,10 @@
 // The fields of each kind of record, by their names.
+ghost use mathlib.Core.List.{List};
 ghost use mathlib.Core.Path.{_≡_};
+ghost use Prim.Native.Nat.{ℕ};
+ghost use Rattle.std.specs.declared.option.Option.{Option as Maybe};
 ghost use Rattle.names.specs.declared.table.Name.{Name as AnyName};
-ghost use Rattle.names.specs.Keys.{key-with, span-name, span-keys, link-name, link-keys, event-name, event-keys, element-name, element-keys, attribute-with};
+ghost use Rattle.names.specs.Keys.{key-with, span-name, span-keys, link-name, link-keys, event-name, event-keys, element-name, element-keys, attribute-with, values-with};
 use crate::table::Name;
 
 // A field of a record.
@@ -10,6 +13,14 @@ pub trait Key: Copy {
 
     fn name(self) -> Name
         ensures { λ r. ⌜ r ≡ named self ⌝ };
+}
+
+// Fields that are found by their names.
+pub trait Named: Sized {
+    ghost found: { List ℕ → Maybe Self };
+
+    fn from_bytes(bytes: &[u8]) -> Option<Self>
+        ensures { λ r. ⌜ r ≡ found (now (bytes .entry)) ⌝ };
 }
 
 // The first of these fields that has the name.
@@ -86,10 +97,10 @@ pub impl Key for SpanKey as SpanKeyNames {
     }
 }
 
-impl SpanKey {
-    pub fn from_bytes(bytes: &[u8]) -> Option<SpanKey>
-        ensures { λ r. ⌜ r ≡ key-with span-name (now (bytes .entry)) span-keys ⌝ }
-    {
+pub impl Named for SpanKey as SpanKeyFound {
+    ghost found = { λ t. key-with span-name t span-keys };
+
+    fn from_bytes(bytes: &[u8]) -> Option<SpanKey> {
         find_key(&SPAN_KEYS, bytes)
     }
 }
@@ -129,10 +140,10 @@ pub impl Key for SpanLinkKey as SpanLinkKeyNames {
     }
 }
 
-impl SpanLinkKey {
-    pub fn from_bytes(bytes: &[u8]) -> Option<SpanLinkKey>
-        ensures { λ r. ⌜ r ≡ key-with link-name (now (bytes .entry)) link-keys ⌝ }
-    {
+pub impl Named for SpanLinkKey as SpanLinkKeyFound {
+    ghost found = { λ t. key-with link-name t link-keys };
+
+    fn from_bytes(bytes: &[u8]) -> Option<SpanLinkKey> {
         find_key(&LINK_KEYS, bytes)
     }
 }
@@ -163,10 +174,10 @@ pub impl Key for SpanEventKey as SpanEventKeyNames {
     }
 }
 
-impl SpanEventKey {
-    pub fn from_bytes(bytes: &[u8]) -> Option<SpanEventKey>
-        ensures { λ r. ⌜ r ≡ key-with event-name (now (bytes .entry)) event-keys ⌝ }
-    {
+pub impl Named for SpanEventKey as SpanEventKeyFound {
+    ghost found = { λ t. key-with event-name t event-keys };
+
+    fn from_bytes(bytes: &[u8]) -> Option<SpanEventKey> {
         find_key(&EVENT_KEYS, bytes)
     }
 }
@@ -203,10 +214,10 @@ pub impl Key for AttributeArrayKey as AttributeArrayKeyNames {
     }
 }
 
-impl AttributeArrayKey {
-    pub fn from_bytes(bytes: &[u8]) -> Option<AttributeArrayKey>
-        ensures { λ r. ⌜ r ≡ key-with element-name (now (bytes .entry)) element-keys ⌝ }
-    {
+pub impl Named for AttributeArrayKey as AttributeArrayKeyFound {
+    ghost found = { λ t. key-with element-name t element-keys };
+
+    fn from_bytes(bytes: &[u8]) -> Option<AttributeArrayKey> {
         find_key(&ELEMENT_KEYS, bytes)
     }
 }
@@ -218,16 +229,32 @@ pub enum AttributeAnyKey {
     ArrayValue,
 }
 
-impl AttributeAnyKey {
-    pub fn from_bytes(bytes: &[u8]) -> Option<AttributeAnyKey>
-        ensures { λ r. ⌜ r ≡ attribute-with (now (bytes .entry)) ⌝ }
-    {
+pub impl Named for AttributeAnyKey as AttributeAnyKeyFound {
+    ghost found = { attribute-with };
+
+    fn from_bytes(bytes: &[u8]) -> Option<AttributeAnyKey> {
         if Name::ArrayValue.is(bytes) {
             return Some(AttributeAnyKey::ArrayValue);
         }
         match AttributeArrayKey::from_bytes(bytes) {
             Some(key) => Some(AttributeAnyKey::Single(key)),
             None => None,
+        }
+    }
+}
+
+// The only field of an array.
+#[derive(Clone, Copy)]
+pub struct ValuesKey;
+
+pub impl Named for ValuesKey as ValuesKeyFound {
+    ghost found = { values-with };
+
+    fn from_bytes(bytes: &[u8]) -> Option<ValuesKey> {
+        if Name::Values.is(bytes) {
+            Some(ValuesKey)
+        } else {
+            None
         }
     }
 }

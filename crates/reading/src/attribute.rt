@@ -1,22 +1,27 @@
 // Attributes of events: a type number and a value.
 ghost use mathlib.Core.Path.{_≡_};
 ghost use Rattle.reading.specs.Judgement.{judged};
-use crate::fault::ArrayValueFault;
-use crate::fault::ArrayValueFaultFromItem;
-use crate::fault::AttributeFault;
-use crate::fault::AttributeFaultFromArrayValue;
-use crate::fault::AttributeFaultFromItem;
+use faults::ArrayValueFault;
+use faults::ArrayValueFaultFromItem;
+use faults::AttributeFault;
+use faults::AttributeFaultFromArrayValue;
+use faults::AttributeFaultFromItem;
 use items::buffer::Buffer;
 use items::fault::DecodeError;
 use items::fault::ItemFault;
+use items::head::Kind;
 use items::integer::I64Range;
 use items::integer::U8Range;
 use items::length::Causes;
-use items::length::Kind;
 use items::part::Part;
+use maps::key::read_fields;
+use maps::key::read_key;
 use names::keys::AttributeAnyKey;
+use names::keys::AttributeAnyKeyFound;
 use names::keys::AttributeArrayKey;
-use names::table::Name;
+use names::keys::AttributeArrayKeyFound;
+use names::keys::ValuesKey;
+use names::keys::ValuesKeyFound;
 
 // A single value, which may be an element of an array.
 #[derive(Clone, Copy)]
@@ -58,19 +63,6 @@ fn judge(value_type: Option<u8>, given_type: Option<u8>) -> Result<u8, DecodeErr
     Ok(value_type)
 }
 
-// Reads the header of a map of exactly two fields.
-fn read_two_fields(buf: &mut Buffer<'_>) -> Result<(), ItemFault> {
-    let place = buf.place();
-    let count = buf.read_length(Kind::Map, Causes::all(DecodeError::InvalidType))?;
-    if count != 2 {
-        return Err(ItemFault {
-            cause: DecodeError::InvalidFormat,
-            place,
-        });
-    }
-    Ok(())
-}
-
 // One value by its field.
 fn read_value<'a>(
     buf: &mut Buffer<'a>,
@@ -93,26 +85,14 @@ fn read_value<'a>(
     )
 }
 
-// Reads a name of an element's field.
-fn read_element_key(buf: &mut Buffer<'_>) -> Result<AttributeArrayKey, ItemFault> {
-    let name = buf.read_text()?;
-    match AttributeArrayKey::from_bytes(name.bytes) {
-        Some(key) => Ok(key),
-        None => Err(ItemFault {
-            cause: DecodeError::InvalidFormat,
-            place: name.place,
-        }),
-    }
-}
-
 // Reads one element, which has to be of the kind of the first.
 fn read_element(buf: &mut Buffer<'_>, first: Option<u8>) -> Result<u8, ArrayValueFault> {
     let place = buf.place();
-    read_two_fields(buf)?;
+    read_fields(buf, 2)?;
     let mut value_type = None;
     let mut given_type = None;
     for _ in 0..2 {
-        let key = read_element_key(buf)?;
+        let key: AttributeArrayKey = read_key(buf)?;
         if let Some(value) = read_value(buf, key, &mut given_type)? {
             value_type = Some(value.type_number());
         }
@@ -146,43 +126,19 @@ fn read_array(buf: &mut Buffer<'_>) -> Result<(), AttributeFault> {
     if buf.handle_null_marker() {
         return Ok(());
     }
-    let place = buf.place();
-    let count = buf.read_length(Kind::Map, Causes::all(DecodeError::InvalidType))?;
-    if count != 1 {
-        return Err(AttributeFault::Own(ItemFault {
-            cause: DecodeError::InvalidFormat,
-            place,
-        }));
-    }
-    let name = buf.read_text()?;
-    if !Name::Values.is(name.bytes) {
-        return Err(AttributeFault::Own(ItemFault {
-            cause: DecodeError::InvalidFormat,
-            place: name.place,
-        }));
-    }
+    read_fields(buf, 1)?;
+    let _values: ValuesKey = read_key(buf)?;
     read_elements(buf)
-}
-
-// Reads a name of an attribute's field.
-fn read_attribute_key(buf: &mut Buffer<'_>) -> Result<AttributeAnyKey, ItemFault> {
-    let name = buf.read_text()?;
-    match AttributeAnyKey::from_bytes(name.bytes) {
-        Some(key) => Ok(key),
-        None => Err(ItemFault {
-            cause: DecodeError::InvalidFormat,
-            place: name.place,
-        }),
-    }
 }
 
 pub fn read_attribute(buf: &mut Buffer<'_>) -> Result<(), AttributeFault> {
     let place = buf.place();
-    read_two_fields(buf)?;
+    read_fields(buf, 2)?;
     let mut value_type = None;
     let mut given_type = None;
     for _ in 0..2 {
-        match read_attribute_key(buf)? {
+        let key: AttributeAnyKey = read_key(buf)?;
+        match key {
             AttributeAnyKey::ArrayValue => {
                 read_array(buf)?;
                 value_type = Some(ARRAY_TYPE);

@@ -1,26 +1,16 @@
 // Events of a span.
 use crate::attribute::read_attribute;
-use crate::fault::EventFault;
-use crate::fault::EventFaultFromAttribute;
-use crate::fault::EventFaultFromItem;
+use faults::EventFault;
+use faults::EventFaultFromAttribute;
+use faults::EventFaultFromItem;
 use items::buffer::Buffer;
 use items::fault::DecodeError;
-use items::fault::ItemFault;
+use items::head::Kind;
 use items::integer::U64Range;
 use items::length::Causes;
-use items::length::Kind;
+use maps::key::read_key;
 use names::keys::SpanEventKey;
-
-fn read_key(buf: &mut Buffer<'_>) -> Result<SpanEventKey, ItemFault> {
-    let name = buf.read_text()?;
-    match SpanEventKey::from_bytes(name.bytes) {
-        Some(key) => Ok(key),
-        None => Err(ItemFault {
-            cause: DecodeError::InvalidFormat,
-            place: name.place,
-        }),
-    }
-}
+use names::keys::SpanEventKeyFound;
 
 fn read_attributes(buf: &mut Buffer<'_>) -> Result<(), EventFault> {
     let count = buf.read_length(Kind::Map, Causes::all(DecodeError::InvalidType))?;
@@ -32,7 +22,8 @@ fn read_attributes(buf: &mut Buffer<'_>) -> Result<(), EventFault> {
 }
 
 fn read_field(buf: &mut Buffer<'_>) -> Result<(), EventFault> {
-    match read_key(buf)? {
+    let key: SpanEventKey = read_key(buf)?;
+    match key {
         SpanEventKey::TimeUnixNano => {
             let _time: u64 = buf.read_integer()?;
         }

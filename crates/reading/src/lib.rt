@@ -1,7 +1,6 @@
 // Reading v04 payloads: arrays of traces, which are arrays of span maps.
 pub mod attribute;
 pub mod event;
-pub mod fault;
 pub mod link;
 pub mod map;
 pub mod receiver;

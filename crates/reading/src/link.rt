@@ -1,31 +1,22 @@
 // Links of a span to other spans.
-use crate::fault::LinkFault;
-use crate::fault::LinkFaultFromItem;
 use crate::map::TextTexts;
 use crate::map::TextTextsReader;
 use crate::map::read_map;
+use faults::LinkFault;
+use faults::LinkFaultFromItem;
 use items::buffer::Buffer;
 use items::fault::DecodeError;
-use items::fault::ItemFault;
+use items::head::Kind;
 use items::integer::U32Range;
 use items::integer::U64Range;
 use items::length::Causes;
-use items::length::Kind;
+use maps::key::read_key;
 use names::keys::SpanLinkKey;
-
-fn read_key(buf: &mut Buffer<'_>) -> Result<SpanLinkKey, ItemFault> {
-    let name = buf.read_text()?;
-    match SpanLinkKey::from_bytes(name.bytes) {
-        Some(key) => Ok(key),
-        None => Err(ItemFault {
-            cause: DecodeError::InvalidFormat,
-            place: name.place,
-        }),
-    }
-}
+use names::keys::SpanLinkKeyFound;
 
 fn read_field(buf: &mut Buffer<'_>) -> Result<(), LinkFault> {
-    match read_key(buf)? {
+    let key: SpanLinkKey = read_key(buf)?;
+    match key {
         SpanLinkKey::TraceId | SpanLinkKey::TraceIdHigh | SpanLinkKey::SpanId => {
             let _id: u64 = buf.read_integer()?;
         }

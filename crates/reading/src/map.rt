@@ -2,8 +2,8 @@
 use items::buffer::Buffer;
 use items::fault::DecodeError;
 use items::fault::ItemFault;
+use items::head::Kind;
 use items::length::Causes;
-use items::length::Kind;
 
 // A kind of pairs.
 pub trait PairReader {

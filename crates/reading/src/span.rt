@@ -1,9 +1,5 @@
 // Spans: maps whose fields may come in any order, and again.
 use crate::event::read_event;
-use crate::fault::SpanFault;
-use crate::fault::SpanFaultFromEvent;
-use crate::fault::SpanFaultFromItem;
-use crate::fault::SpanFaultFromLink;
 use crate::link::read_link;
 use crate::map::PairReader;
 use crate::map::TextBytes;
@@ -14,27 +10,22 @@ use crate::map::TextTexts;
 use crate::map::TextTextsReader;
 use crate::map::read_map;
 use crate::receiver::Span;
+use faults::SpanFault;
+use faults::SpanFaultFromEvent;
+use faults::SpanFaultFromItem;
+use faults::SpanFaultFromLink;
 use items::buffer::Buffer;
 use items::fault::DecodeError;
 use items::fault::ItemFault;
+use items::head::Kind;
 use items::integer::I32Range;
 use items::integer::I64Range;
 use items::integer::IntegerRange;
 use items::integer::U64Range;
 use items::length::Causes;
-use items::length::Kind;
+use maps::key::read_key;
 use names::keys::SpanKey;
-
-fn read_key(buf: &mut Buffer<'_>) -> Result<SpanKey, ItemFault> {
-    let name = buf.read_text()?;
-    match SpanKey::from_bytes(name.bytes) {
-        Some(key) => Ok(key),
-        None => Err(ItemFault {
-            cause: DecodeError::InvalidFormat,
-            place: name.place,
-        }),
-    }
-}
+use names::keys::SpanKeyFound;
 
 // A text, or none for null.
 fn read_nullable_text(buf: &mut Buffer<'_>) -> Result<(), ItemFault> {
@@ -87,7 +78,8 @@ fn read_events(buf: &mut Buffer<'_>) -> Result<(), SpanFault> {
 
 // Reads one field into the span.
 fn fill_span(span: &mut Span, buf: &mut Buffer<'_>) -> Result<(), SpanFault> {
-    match read_key(buf)? {
+    let key: SpanKey = read_key(buf)?;
+    match key {
         SpanKey::Service | SpanKey::Name | SpanKey::Resource | SpanKey::Type => read_nullable_text(
             buf,
         )?,

@@ -1,14 +1,14 @@
 // The v04 payload: an array of traces, each an array of spans.
-use crate::fault::PayloadFault;
-use crate::fault::RecordFault;
-use crate::fault::RecordFaultFromItem;
-use crate::fault::RecordFaultFromSpan;
 use crate::receiver::Receiver;
 use crate::span::decode_span;
+use faults::PayloadFault;
+use faults::RecordFault;
+use faults::RecordFaultFromItem;
+use faults::RecordFaultFromSpan;
 use items::buffer::Buffer;
 use items::fault::DecodeError;
+use items::head::Kind;
 use items::length::Causes;
-use items::length::Kind;
 
 // Reads the count of traces or of spans.
 fn read_count(buf: &mut Buffer<'_>) -> Result<u64, RecordFault> {

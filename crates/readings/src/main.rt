@@ -1,5 +1,5 @@
 // Reads a line of hexadecimal digits for each payload, and prints what its reading as v04 gives.
-use reading::fault::PayloadFault;
+use faults::PayloadFault;
 use reading::receiver::Receiver;
 use reading::receiver::Span;
 use reading::v04::from_slice;

@@ -1,7 +1,7 @@
 // Why a payload is not listed.
 ghost use mathlib.Core.Path.{_≡_};
 ghost use Rattle.spanlist.specs.Refusals.{refusal-number};
-use reading::fault::PayloadFault;
+use faults::PayloadFault;
 use std::alloc::AllocError;
 use std::alloc::Refused;
 

@@ -1,0 +1,6 @@
+pub mod Complete
+pub mod Firsts
+pub mod Forms
+pub mod Places
+pub mod Sound
+pub mod Written

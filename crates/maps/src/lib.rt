@@ -1,0 +1,4 @@
+// Maps of pairs, of every kind by one reading.
+pub mod key;
+pub mod map;
+pub mod pairs;

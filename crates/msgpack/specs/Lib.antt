@@ -1,0 +1,5 @@
+pub mod Doubles
+pub mod Encodings
+pub mod Numbers
+pub mod Overview
+pub mod Text

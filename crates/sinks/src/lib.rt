@@ -1,0 +1,4 @@
+// Places that bytes are written to.
+pub mod count;
+pub mod sink;
+pub mod slice;

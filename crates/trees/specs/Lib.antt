@@ -1,0 +1,4 @@
+pub mod Payloads
+pub mod Records
+pub mod Steps
+pub mod Tree
