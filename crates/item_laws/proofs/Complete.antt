@@ -5,6 +5,7 @@ use mathlib.Core.List.{List, [], _∷_, _++_, append-assoc}
 use mathlib.Core.Logic.{inl, inr}
 use Prim.Native.Nat.{ℕ, suc, _+_, _-_, _*_, _^_, _<_, _≤_}
 use native.Mathlib.Omega.{arith}
+use lib.Dec.{ltb}
 use lib.IntN.{ℤ, pos, negsuc}
 use lib.ListN.{length, take, drop, length-append}
 use lib.Seq.{take-append-seam, drop-append-add, drop-append-seam, getD-append-seam}
@@ -26,7 +27,7 @@ use Rattle.items.specs.declared.head.Kind.the-variants as kind
 use Rattle.items.specs.declared.length.Causes.{Causes}
 use Rattle.items.specs.declared.number.Number.{Number}
 use Rattle.items.specs.declared.number.Number.the-variants as number
-use Rattle.items.specs.Items.{Piece, head-of, at-item, by-content, double-of, number-by, a-number, in-range, integer-of, asked, an-integer, double-by, a-double, length-by, a-length, all-causes, text-causes, cut, a-piece, judged-text, a-text, truth-by, a-truth, null-at}
+use Rattle.items.specs.Items.{Piece, head-of, at-item, by-content, double-of, number-by, a-number, in-range, integer-of, asked, an-integer, indexed, an-index, double-by, a-double, length-by, a-length, all-causes, text-causes, cut, a-piece, judged-text, a-text, truth-by, a-truth, null-at}
 use Rattle.items.specs.Reads.{got, then}
 use Rattle.item_laws.specs.Laws.{Placed, Encodings-read}
 use Rattle.item_laws.proofs.Firsts.{positive-says, negative-says, text-says, array-says, map-says}
@@ -145,7 +146,7 @@ module _ (front rest : List ℕ) where
     content : (w : Width) (b n : ℕ) → n < 256 ^ wide w → by-content (causes .«length_missing») w (λ m. m) (mid (b ∷ digits (wide w) n)) at ≡ got n (next (b ∷ digits (wide w) n))
     content w b n h = content-read (causes .«length_missing») w (λ m. m) front b n rest h
 
-    length-read : (k : Kind) (n : ℕ) (e : List ℕ) → By (forms-of k) n e → Counts k n e
+    pub length-read : (k : Kind) (n : ℕ) (e : List ℕ) → By (forms-of k) n e → Counts k n e
     length-read kind.Text n e (inl p) = subst (Counts kind.Text n) (sym (p .1)) (length-begun kind.Text (0xa0 + n) [] _ (text-says n (p .0)))
     length-read kind.Text n e (inr (inl p)) = subst (Counts kind.Text n) (sym (p .1)) (length-begun kind.Text 0xd9 (digits 1 n) _ refl ∙ content One 0xd9 n (p .0))
     length-read kind.Text n e (inr (inr (inl p))) = subst (Counts kind.Text n) (sym (p .1)) (length-begun kind.Text 0xda (digits 2 n) _ refl ∙ content Two 0xda n (p .0))
@@ -192,7 +193,7 @@ module _ (front t rest : List ℕ) where
       cond-true _ (got (piece (take (length t) (drop start bytes)) at start) (start + length t)) (at-item short at) (le-leb (start + length t) (length bytes) l)
       ∙ ap (λ xs. got (piece xs at start) (start + length t)) (ap (take (length t)) behind ∙ take-append-seam t rest)
 
-  piece-read : (k : Kind) (causes : Causes) (short : DecodeError) (e : List ℕ) → Headed (forms-of k) t e
+  pub piece-read : (k : Kind) (causes : Causes) (short : DecodeError) (e : List ℕ) → Headed (forms-of k) t e
       → a-piece k causes short (front ++ (e ++ rest)) (length front) ≡ got (piece t (length front) (length front + length e - length t)) (length front + length e)
   piece-read k causes short e h =
       let head = h .head in
@@ -226,10 +227,26 @@ doubles-of-integers-read z front e rest h =
     let r = integer-read front rest z e h in
     doubled-read front rest (r .0) e (r .2) ∙ ap (λ d. got d (length front + length e)) (double-is (r .0) z (r .1))
 
+indices-read : (end n : ℕ) → n < 2 ^ 32 → Placed (integer (pos n)) (λ bytes at next.
+    (n < end → an-index end bytes at ≡ got (pos n) next) × (end ≤ n → an-index end bytes at ≡ at-item InvalidFormat at))
+indices-read end n l front e rest h =
+    let at = length front in
+    let next = at + length e in
+    let small : n ≤ 4294967295 = omega arith in
+    let low : 0 ≤ n = omega arith in
+    let r : in-range (pos 0) (pos 4294967295) (pos n) ≡ Some (pos n) = cond-true _ _ _ (and-from _ _ (le-leb 0 n low) (le-leb n 4294967295 small)) in
+    let i = ap (λ o. then o (indexed end at)) (integers-read (pos 0) (pos 4294967295) (pos n) front e rest h .0 r) in
+    (λ t. i ∙ cond-true (ltb n end) (got (pos n) next) (at-item InvalidFormat at) (lt-ltb n end t), λ t. i ∙ cond-false (ltb n end) (got (pos n) next) (at-item InvalidFormat at) (le-ltb n end t))
+
+other-indices-read : (end : ℕ) (z : ℤ) → in-range (pos 0) (pos 4294967295) z ≡ None → Placed (integer z) (λ bytes at next. an-index end bytes at ≡ at-item InvalidConversion at)
+other-indices-read end z r front e rest h = ap (λ o. then o (indexed end (length front))) (integers-read (pos 0) (pos 4294967295) z front e rest h .1 r)
+
 pub encodings-read : Encodings-read
 encodings-read =
     record {
       integers = integers-read;
+      indices = indices-read;
+      other-indices = other-indices-read;
       doubles-of-integers = doubles-of-integers-read;
       doubles = λ b front e rest h. doubled-read front rest (number.Float b) e (double-read front rest b e h);
       doubles-of-singles = λ b front e rest h. doubled-read front rest (number.Float (widened b)) e (single-read front rest b e h);

@@ -1,4 +1,5 @@
 pub mod Complete
+pub mod Faults
 pub mod Firsts
 pub mod Forms
 pub mod Places

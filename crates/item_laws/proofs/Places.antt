@@ -17,7 +17,6 @@ use Rattle.msgpack.specs.Overview.{marker}
 use Rattle.msgpack.proofs.Digits.{digits-big, big-digits, length-digits}
 use Rattle.items.specs.declared.fault.DecodeError.{DecodeError}
 use Rattle.items.specs.declared.fault.ItemFault.{ItemFault}
-use Rattle.items.specs.declared.head.Head.{Head}
 use Rattle.items.specs.Items.{by-head, by-content, head-of, at-item}
 use Rattle.items.specs.Reads.{Outcome, got, fault, then}
 use Rattle.item_laws.specs.Laws.{between, Sound}
@@ -72,7 +71,7 @@ pub sound : {A : Type 0} (read : List ℕ → ℕ → Outcome ItemFault A) (stan
     → ((bytes : List ℕ) (at : ℕ) → Under 256 bytes → Holds (Standing stands bytes at) (read bytes at)) → Sound read stands
 sound read stands each bytes at next x u e = subst (Holds (Standing stands bytes at)) e (each bytes at u)
 
-pub holds-head : {A : Type 0} (P : A → ℕ → Type 0) (ended : DecodeError) (f : Head → Outcome ItemFault A) (bytes : List ℕ) (at : ℕ)
+pub holds-head : {A : Type 0} (P : A → ℕ → Type 0) (ended : DecodeError) (f : _ → Outcome ItemFault A) (bytes : List ℕ) (at : ℕ)
     → (at < length bytes → Holds P (f (head-of (marker (getD bytes at 0))))) → Holds P (by-head ended f bytes at)
 holds-head P ended f bytes at h = holds-cond P _ _ _ (λ t. h (ltb-true at (length bytes) t))
 
@@ -91,7 +90,7 @@ holds-content P short w f bytes at u h =
 
 -- readings of bytes that stand behind others and before others
 
-pub head-read : {A : Type 0} (ended : DecodeError) (f : Head → Outcome ItemFault A) (front : List ℕ) (b : ℕ) (rest : List ℕ) → by-head ended f (front ++ (b ∷ rest)) (length front) ≡ f (head-of (marker b))
+pub head-read : {A : Type 0} (ended : DecodeError) (f : _ → Outcome ItemFault A) (front : List ℕ) (b : ℕ) (rest : List ℕ) → by-head ended f (front ++ (b ∷ rest)) (length front) ≡ f (head-of (marker b))
 head-read ended f front b rest =
     let l : length front < length (front ++ (b ∷ rest)) = simp length-append (omega arith) in
     ap (λ t. cond t (f (head-of (marker (getD (front ++ (b ∷ rest)) (length front) 0)))) (at-item ended (length front))) (lt-ltb _ _ l)

@@ -2,17 +2,18 @@
 use mathlib.Core.Path.{_≡_, refl, sym, ap, subst, _∙_}
 use mathlib.Core.Bool.{Bool, true, false, cond, _&&_}
 use mathlib.Core.List.{List, [], _∷_}
-use mathlib.Core.Logic.{inl}
+use mathlib.Core.Logic.{inl, inr}
 use Prim.Native.Nat.{ℕ, _+_, _^_, _<_, _≤_}
 use native.Mathlib.Omega.{arith}
-use lib.IntN.{ℤ, pos}
-use lib.Signed.{leZ}
+use lib.Dec.{leb}
+use lib.IntN.{ℤ, pos, negsuc}
+use lib.Signed.{leZ, ltZ}
 use lib.ListN.{length, take, drop, getD}
 use Rattle.std.specs.declared.option.Option.the-variants.{Some, None}
 use Rattle.std.specs.shelf.Digits.{Under}
 use Rattle.std.proofs.shelf.Elements.{all-getD}
 use Rattle.std.proofs.shelf.Lists.{length-take, length-drop}
-use Rattle.std.proofs.shelf.Tests.{and-parts, ltb-true, leb-true, eqb-true}
+use Rattle.std.proofs.shelf.Tests.{and-parts, true≢false, ltb-true, leb-true, eqb-true}
 use Rattle.msgpack.specs.declared.marker.Marker.{Marker}
 use Rattle.msgpack.specs.declared.marker.Marker.the-variants as marker-kind
 use Rattle.msgpack.specs.declared.marker.Width.{Width}
@@ -22,15 +23,14 @@ use Rattle.msgpack.specs.Overview.{marker}
 use Rattle.msgpack.specs.Text.{utf8}
 use Rattle.items.specs.declared.fault.DecodeError.{DecodeError}
 use Rattle.items.specs.declared.fault.DecodeError.the-variants.{InvalidFormat, IOError}
-use Rattle.items.specs.declared.head.Head.the-variants.{Length, LengthBehind}
 use Rattle.items.specs.declared.head.Kind.{Kind}
 use Rattle.items.specs.declared.head.Kind.the-variants as kind
 use Rattle.items.specs.declared.length.Causes.{Causes}
 use Rattle.items.specs.declared.number.Number.{Number}
 use Rattle.items.specs.declared.number.Number.the-variants as number
-use Rattle.items.specs.Items.{Piece, head-of, by-content, kind-number, same-kind, number-by, a-number, in-range, integer-of, asked, an-integer, length-by, a-length, all-causes, text-causes, cut, a-piece, judged-text, a-text, a-binary, truth-by, a-truth, null-at, double-of}
+use Rattle.items.specs.Items.{Piece, head-of, at-item, by-content, kind-number, same-kind, number-by, a-number, in-range, integer-of, asked, an-integer, indexed, an-index, double-by, a-double, length-by, a-length, all-causes, text-causes, cut, a-piece, judged-text, a-text, a-binary, truth-by, a-truth, null-at, double-of}
 use Rattle.items.specs.Reads.{got}
-use Rattle.item_laws.specs.Laws.{between, Stands, Lies, Reads-encodings}
+use Rattle.item_laws.specs.Laws.{between, Stands, Stands-double, Stands-index, Lies, Reads-encodings}
 use Rattle.item_laws.proofs.Firsts.{first}
 use Rattle.item_laws.proofs.Forms.{forms-of, positive-form, negative-form, unsigned-form, signed-form, float-form, text-form, binary-form, array-form, map-form, short-text, short-array, short-map}
 use Rattle.item_laws.proofs.Places.{between-one, between-joins, length-between, Holds, holds-cond, holds-then, holds-weaker, holds-head, holds-content, Standing, sound}
@@ -73,6 +73,25 @@ Pieced k bytes at p e = Headed (forms-of k) (p .content) e × Lies bytes at p e
 abbrev Worded : List ℕ → ℕ → Piece → List ℕ → Type 0
 Worded bytes at p e = (utf8 (p .content) ≡ true) × Headed text-forms (p .content) e × Lies bytes at p e
 
+-- an integer of a range is from its low to its high end
+ranged : (low high z : ℤ) → in-range low high z ≡ Some z → (leZ low z && leZ z high) ≡ true
+ranged low high z e = split (leZ low z && leZ z high) e
+  where
+    split : (b : Bool) → cond b (Some z) None ≡ Some z → b ≡ true
+    split true h = refl
+    split false h = let n : _≡_ {A = ℕ} 0 1 = cc in absurd (omega arith)
+
+index-stands : (end : ℕ) (z : ℤ) (e : List ℕ) → in-range (pos 0) (pos 4294967295) z ≡ Some z → ltZ z (pos end) ≡ true → Encodes (integer z) e → Stands-index end z e
+index-stands end (pos n) e r t h =
+    let l : n ≤ 4294967295 = leb-true n 4294967295 (and-parts (leb 0 n) (leb n 4294967295) (ranged (pos 0) (pos 4294967295) (pos n) r) .1) in
+    (n, refl, ltb-true n end t, omega arith, h)
+index-stands end (negsuc n) e r t h = absurd (true≢false (sym (ranged (pos 0) (pos 4294967295) (negsuc n) r)))
+
+double-stands : (x : Number) (e : List ℕ) → Stands x e → Stands-double (double-by x) e
+double-stands (number.Unsigned n) e h = inl (pos n, refl, h)
+double-stands (number.Signed z) e h = inl (z, refl, h)
+double-stands (number.Float b) e h = inr h
+
 -- an item at a place within the bytes, by what its first byte says
 module _ (bytes : List ℕ) (at : ℕ) (under : Under 256 bytes) (inside : at < length bytes) where
   abbrev byte : ℕ
@@ -114,11 +133,11 @@ module _ (bytes : List ℕ) (at : ℕ) (under : Under 256 bytes) (inside : at < 
 
   -- a length of a kind, read as one of the kind that is asked for
   module _ (k : Kind) (causes : Causes) where
-    short-length : (j : Kind) (n : ℕ) → By (forms-of j) n (between bytes at (at + 1)) → Holds (Standing (Counted k) bytes at) (length-by k causes bytes at (Length j n))
+    short-length : (j : Kind) (n : ℕ) → By (forms-of j) n (between bytes at (at + 1)) → Holds (Standing (Counted k) bytes at) (cond (same-kind j k) (got n (at + 1)) (at-item (causes .«other_marker») at))
     short-length j n h =
         holds-cond (Standing (Counted k) bytes at) (same-kind j k) (got n (at + 1)) _ (λ t. near (By (forms-of k)) n (subst (λ i. By (forms-of i) n (between bytes at (at + 1))) (same j k t) h))
 
-    long-length : (j : Kind) (w : Width) → ((n : ℕ) (e : List ℕ) → n < 256 ^ wide w → e ≡ byte ∷ digits (wide w) n → By (forms-of j) n e) → Holds (Standing (Counted k) bytes at) (length-by k causes bytes at (LengthBehind j w))
+    long-length : (j : Kind) (w : Width) → ((n : ℕ) (e : List ℕ) → n < 256 ^ wide w → e ≡ byte ∷ digits (wide w) n → By (forms-of j) n e) → Holds (Standing (Counted k) bytes at) (cond (same-kind j k) (by-content (causes .«length_missing») w (λ n. n) bytes at) (at-item (causes .«other_marker») at))
     long-length j w each =
         holds-cond (Standing (Counted k) bytes at) (same-kind j k) (by-content (causes .«length_missing») w (λ n. n) bytes at) _
         (λ t. far (By (forms-of k)) (causes .«length_missing») w (λ n. n) (λ n e h is. subst (λ i. By (forms-of i) n e) (same j k t) (each n e h is)))
@@ -193,6 +212,19 @@ module _ (bytes : List ℕ) (at : ℕ) (under : Under 256 bytes) where
       holds-then (Standing (Ranged low high) bytes at) (a-number bytes at) (λ n next. asked at next (integer-of low high n))
       (holds-weaker (Standing (λ _ _. Stands) bytes at) _ (a-number bytes at) (number-asked low high) numbers-stand)
 
+  doubles-stand : Holds (Standing (λ _ _. Stands-double) bytes at) (a-double bytes at)
+  doubles-stand =
+      holds-then (Standing (λ _ _. Stands-double) bytes at) (a-number bytes at) (λ n next. got (double-by n) next)
+      (holds-weaker (Standing (λ _ _. Stands) bytes at) _ (a-number bytes at) (λ x next s. (s .0, s .1, double-stands x (between bytes at next) (s .2))) numbers-stand)
+
+  indices-stand : (end : ℕ) → Holds (Standing (λ _ _. Stands-index end) bytes at) (an-index end bytes at)
+  indices-stand end =
+      holds-then (Standing (λ _ _. Stands-index end) bytes at) (an-integer (pos 0) (pos 4294967295) bytes at) (indexed end at)
+      (holds-weaker (Standing (Ranged (pos 0) (pos 4294967295)) bytes at) _ (an-integer (pos 0) (pos 4294967295) bytes at)
+      (λ z next s. holds-cond (Standing (λ _ _. Stands-index end) bytes at) (ltZ z (pos end)) (got z next) _ (λ t.
+      (s .0, s .1, index-stands end z (between bytes at next) (s .2 .0) t (s .2 .1))))
+      (integers-stand (pos 0) (pos 4294967295)))
+
   -- texts and byte parts
 
   cut-stands : (k : Kind) (short : DecodeError) (n mid : ℕ) → Standing (Counted k) bytes at n mid → Holds (Standing (Pieced k) bytes at) (cut short bytes at n mid)
@@ -227,6 +259,8 @@ reads-encodings =
     record {
       numbers = sound a-number (λ _ _. Stands) numbers-stand;
       integers = λ low high. sound (an-integer low high) (Ranged low high) (λ bytes at u. integers-stand bytes at u low high);
+      doubles = sound a-double (λ _ _. Stands-double) doubles-stand;
+      indices = λ end. sound (an-index end) (λ _ _. Stands-index end) (λ bytes at u. indices-stand bytes at u end);
       arrays = λ causes. sound (a-length kind.Array causes) (Counted kind.Array) (λ bytes at u. lengths-stand bytes at u kind.Array causes);
       maps = λ causes. sound (a-length kind.Map causes) (Counted kind.Map) (λ bytes at u. lengths-stand bytes at u kind.Map causes);
       texts = sound a-text Worded texts-stand;

@@ -3,8 +3,8 @@ use mathlib.Core.Path.{_≡_}
 use mathlib.Core.List.{[], _∷_}
 use lib.IntN.{pos, negsuc}
 use Rattle.msgpack.specs.Encodings.{written-integer}
-use Rattle.items.specs.declared.fault.DecodeError.the-variants.{Utf8Error}
-use Rattle.items.specs.Items.{a-double, a-text, at-item}
+use Rattle.items.specs.declared.fault.DecodeError.the-variants.{InvalidConversion, InvalidType, Utf8Error}
+use Rattle.items.specs.Items.{an-integer, a-double, a-text, at-item}
 use Rattle.items.specs.Reads.{got}
 
 -- -32, -33, 127, 128 and -1, in their shortest forms
@@ -12,6 +12,12 @@ abbrev pub Written-examples : Type 0
 Written-examples =
     (written-integer (negsuc 31) ≡ 0xe0 ∷ []) × (written-integer (negsuc 32) ≡ 0xd0 ∷ 0xdf ∷ []) × (written-integer (pos 127) ≡ 0x7f ∷ [])
     × (written-integer (pos 128) ≡ 0xcc ∷ 0x80 ∷ []) × (written-integer (negsuc 0) ≡ 0xff ∷ [])
+
+-- -1 and null, where a number from 0 to 2 ^ 64 - 1 is asked for
+abbrev pub Integer-examples : Type 0
+Integer-examples =
+    (an-integer (pos 0) (pos 18446744073709551615) (0xff ∷ []) 0 ≡ at-item InvalidConversion 0)
+    × (an-integer (pos 0) (pos 18446744073709551615) (0xc0 ∷ []) 0 ≡ at-item InvalidType 0)
 
 -- 2 ^ 53 + 1 at a tie, 1.5, the least single, a signalling NaN, and 2 ^ 64 - 1
 abbrev pub Double-examples : Type 0

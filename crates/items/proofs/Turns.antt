@@ -3,7 +3,7 @@ use mathlib.Core.Path.{_≡_, refl, sym, ap, subst, _∙_}
 use mathlib.Core.List.{List, [], _∷_}
 use Prim.Native.Nat.{ℕ, zero, suc, _+_, _-_, _<_, _≤_}
 use native.Mathlib.Omega.{arith}
-use Rattle.items.specs.Reads.{Outcome, got, fault, then, times, numbered, fold, With, with, nothing}
+use Rattle.items.specs.Reads.{Outcome, got, fault, then, raised, times, numbered, fold, With, with, nothing}
 
 module _ {E A M : Type 0} (p : ℕ → ℕ → Outcome E A) (step : M → A → M) where
   -- what n more lead to, the first of them numbered i
@@ -109,3 +109,13 @@ opened one step answer {w} {w₀} {m} {m′} {p} {p′} {v} s e =
 -- an outcome, seen at a window that is the same
 pub moved : {E A W : Type 0} (one : W → ℕ → Outcome E A) {w w₀ : W} {p : ℕ} {o : Outcome E A} → w ≡ w₀ → one w p ≡ o → one w₀ p ≡ o
 moved one {p = p} {o = o} s e = subst (λ u. one u p ≡ o) s e
+
+-- the same with another answer, which what was read always gives
+pub into-answered : {E A B M V : Type 0} (o : Outcome E A) (h : A → B) (f : B → M) (g : B → V) (v : V) {m : M} {at : ℕ} → ((x : A) → g (h x) ≡ v) → then o (λ x next. got (with (f (h x)) (nothing x)) next) ≡ got (with m tt) at → then (then o (λ x next. got (h x) next)) (λ y next. got (with (f y) (g y)) next) ≡ got (with m v) at
+into-answered (got x next) h f g v {m} {at} k e = let a : f (h x) ≡ m = cc in let b : next ≡ at = cc in ap (λ j. got (with j (g (h x))) next) a ∙ ap (λ j. got (with m j) next) (k x) ∙ ap (λ j. got (with m v) j) b
+into-answered (fault d) h f g v k e = let z : _≡_ {A = ℕ} 0 1 = cc in absurd (omega arith)
+
+-- a reading whose faults rise into others
+pub raised-got : {E F A B : Type 0} (f : E → F) (o : Outcome E A) (h : A → B) {y : B} {at : ℕ} → then o (λ x next. got (h x) next) ≡ got y at → then (raised f o) (λ x next. got (h x) next) ≡ got y at
+raised-got f (got x next) h {y} {at} e = let a : h x ≡ y = cc in let b : next ≡ at = cc in ap (λ j. got j next) a ∙ ap (λ j. got y j) b
+raised-got f (fault d) h e = let z : _≡_ {A = ℕ} 0 1 = cc in absurd (omega arith)

@@ -2,7 +2,7 @@
 ghost use mathlib.Core.Path.{_≡_};
 ghost use Prim.Native.Nat.{ℕ, _+_, _≤_, _<_};
 ghost use lib.ListN.{length, take};
-ghost use denote.Ref.{now};
+ghost use denote.Ref.{now, name};
 ghost use Rattle.std.specs.Options.{Cases as BySome};
 ghost use Rattle.std.specs.Results.{Cases};
 ghost use Rattle.keyed.specs.Keyed.{seek, value-of, putting, shortage-number, Finds};
@@ -71,6 +71,7 @@ impl<'a, K: Copy, V: Copy> KeyedList<'a, K, V> {
     pub fn new(entries: &'a mut [Entry<K, V>]) -> KeyedList<'a, K, V>
         ensures empty { λ r. ⌜ r .len ≡ 0 ⌝ }
         ensures entries { λ r. ⌜ now (r .entries) ≡ now (entries .entry) ⌝ }
+        ensures lender { λ r. ⌜ name (r .entries) ≡ name (entries .entry) ⌝ }
     {
         KeyedList { entries, len: 0 }
     }
@@ -101,6 +102,7 @@ impl<'a, K: Copy, V: Copy> KeyedList<'a, K, V> {
     pub fn put<S: Sameness<K>>(&mut self, key: K, value: V, sameness: &S) -> Result<usize, Shortage>
         ensures answer { λ r. ⌜ r ≡ putting (S·Sameness .alike (now (sameness .entry))) key value (now (self .entry) .len) (now (now (self .entry) .entries)) .answer ⌝ }
         ensures memory { λ _. ⌜ now (now (self .exit) .entries) ≡ putting (S·Sameness .alike (now (sameness .entry))) key value (now (self .entry) .len) (now (now (self .entry) .entries)) .memory ⌝ }
+        ensures lender { λ _. ⌜ name (now (self .exit) .entries) ≡ name (now (self .entry) .entries) ⌝ }
         ensures used { λ _. ⌜ now (self .exit) .len ≡ putting (S·Sameness .alike (now (sameness .entry))) key value (now (self .entry) .len) (now (now (self .entry) .entries)) .used ⌝ }
         ensures finds { λ r. ⌜ Cases r (λ _. Finds (S·Sameness .alike (now (sameness .entry))) key value (take (now (self .entry) .len) (now (now (self .entry) .entries))) (take (now (self .exit) .len) (now (now (self .exit) .entries)))) (λ _. now (self .entry) .len ≡ length (now (now (self .entry) .entries))) ⌝ }
     {

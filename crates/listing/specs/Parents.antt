@@ -2,9 +2,10 @@
 use mathlib.Core.Path.{_≡_}
 use mathlib.Core.Bool.{cond}
 use mathlib.Core.List.{List, [], _∷_}
-use Prim.Native.Nat.{ℕ, _+_, _<_}
+use mathlib.Core.Logic.{_⊎_}
+use Prim.Native.Nat.{ℕ, _+_, _<_, _≤_}
 use lib.Dec.{eqb}
-use lib.ListN.{length, getD}
+use lib.ListN.{length, getD, take, drop}
 use Rattle.std.specs.declared.option.Option.{Option}
 use Rattle.std.specs.declared.option.Option.the-variants.{Some, None}
 use Rattle.listing.specs.declared.row.SpanRow.{SpanRow}
@@ -27,3 +28,15 @@ pub record Parents (spans : List SpanRow) (parents : List (Option ℕ)) : Type 0
 abbrev pub first-with : ℕ → List SpanRow → ℕ → Option ℕ
 first-with id [] i = None
 first-with id (x ∷ xs) i = cond (eqb (x .«span_id») id) (Some i) (first-with id xs (i + 1))
+
+-- the first answers are the parents, and those behind them are as before
+pub record Found (spans : List SpanRow) (entries : ℕ) (old new : List (Option ℕ)) : Type 0 where
+  pub memory : length spans ≤ entries
+  pub room : length spans ≤ length old
+  pub front : Parents spans (take (length spans) new)
+  pub behind : drop (length spans) new ≡ drop (length spans) old
+
+-- too few entries or answers, and nothing changed
+pub record Few (spans : List SpanRow) (entries : ℕ) (old new : List (Option ℕ)) : Type 0 where
+  pub few : (entries < length spans) ⊎ (length old < length spans)
+  pub same : new ≡ old

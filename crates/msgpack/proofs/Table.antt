@@ -1,19 +1,14 @@
--- The overview decides each first byte by one row: the byte can be told from what it says. Assumes nothing.
-use mathlib.Core.Path.{_≡_, refl, sym, ap, _∙_}
-use mathlib.Core.Bool.{Bool, true, false, cond, _&&_}
+-- The overview decides each first byte by one row alone. Assumes nothing.
+use mathlib.Core.Path.{_≡_, refl, ap, _∙_}
+use mathlib.Core.Bool.{Bool, true, false, _&&_}
 use mathlib.Core.List.{List, [], _∷_}
-use mathlib.Core.Logic.{_⊎_, inl, inr, ⊎-elim}
-use Prim.Native.Nat.{ℕ, zero, suc, _+_, _-_, _<_, _≤_}
+use mathlib.Core.Logic.{inl, inr}
+use Prim.Native.Nat.{ℕ, zero, suc, _<_}
 use native.Mathlib.Omega.{arith}
-use lib.Dec.{eqb, ltb, leb}
-use borrow.Author.Tests.{eqb-true}
+use lib.Dec.{eqb, leb}
+use borrow.Author.Tests.{eqb-true, leb-true}
 use Rattle.std.proofs.shelf.Tests.{cases-lt}
-use Rattle.std.proofs.shelf.Ways.{tells}
-use Rattle.msgpack.specs.declared.marker.Width.{Width}
-use Rattle.msgpack.specs.declared.marker.Width.the-variants.{One, Two, Four, Eight}
-use Rattle.msgpack.specs.declared.marker.Marker.{Marker}
-use Rattle.msgpack.specs.declared.marker.Marker.the-variants.{PositiveFixint, FixMap, FixArray, FixStr, Nil, NeverUsed, False, True, Bin, Ext, Float, Uint, Int, FixExt, Str, Array, Map, NegativeFixint}
-use Rattle.msgpack.specs.Overview.{Row, overview, decided, marker, first-byte, Decides-each}
+use Rattle.msgpack.specs.Overview.{Row, overview, marker, first-byte, rows-of, Decides-each, Rising, Rises, One-row}
 
 -- a test that each number below n passes
 abbrev pub all-below : ℕ → (ℕ → Bool) → Bool
@@ -34,9 +29,19 @@ below (suc n) p e k h =
 pub decides-each : Decides-each
 decides-each b h = eqb-true _ _ (below 256 (λ k. eqb (first-byte (marker k)) k) refl b h)
 
--- rows that end before a byte are passed over
-hit : (r : Row) (rs : List Row) (b : ℕ) → b ≤ r .last → decided (r ∷ rs) b ≡ r .says b
-hit r rs b h = let t : leb b (r .last) ≡ true = grind (arith, tells) in ap (λ v. cond v (r .says b) (decided rs b)) t
+pub one-row : One-row
+one-row b h = eqb-true _ _ (below 256 (λ k. eqb (rows-of k 0 overview) 1) refl b h)
 
-past : (r : Row) (rs : List Row) (b : ℕ) → r .last < b → decided (r ∷ rs) b ≡ decided rs b
-past r rs b h = let t : leb b (r .last) ≡ false = grind (arith, tells) in ap (λ v. cond v (r .says b) (decided rs b)) t
+-- a test for rows that rise
+abbrev pub rising : ℕ → List Row → Bool
+rising start [] = eqb start 256
+rising start (r ∷ rs) = leb start (r .last) && rising (suc (r .last)) rs
+
+tested : (start : ℕ) (rs : List Row) → rising start rs ≡ true → Rising start rs
+tested start [] e = eqb-true _ _ e
+tested start (r ∷ rs) e =
+    let b = both (leb start (r .last)) (rising (suc (r .last)) rs) e in
+    (leb-true _ _ (b .0), tested (suc (r .last)) rs (b .1))
+
+pub rises : Rises
+rises = (refl, tested 0 overview refl)

@@ -1,9 +1,10 @@
 -- MessagePack's format overview: which format each first byte begins. Assumes nothing.
 use mathlib.Core.Path.{_≡_}
-use mathlib.Core.Bool.{cond}
+use mathlib.Core.Bool.{cond, _&&_}
 use mathlib.Core.List.{List, [], _∷_}
-use Prim.Native.Nat.{ℕ, _+_, _-_, _<_}
+use Prim.Native.Nat.{ℕ, suc, _+_, _-_, _<_, _≤_}
 use lib.Dec.{leb, ltb, eqb}
+use lib.ListN.{length}
 use Rattle.msgpack.specs.declared.marker.Width.{Width}
 use Rattle.msgpack.specs.declared.marker.Width.the-variants.{One, Two, Four, Eight}
 use Rattle.msgpack.specs.declared.marker.Marker.{Marker}
@@ -100,6 +101,23 @@ first-byte (Array w) = widths none 0xdc 0xdd none w
 first-byte (Map w) = widths none 0xde 0xdf none w
 first-byte (NegativeFixint b) = cond (leb 0xe0 b) b none
 
--- each first byte is decided by one row alone: it can be told from what that row says
+-- a first byte can be told from what its row says
 abbrev pub Decides-each : Type 0
 Decides-each = (b : ℕ) → b < 256 → first-byte (marker b) ≡ b
+
+-- the rows begin at this byte, each ends behind the one above, and the last ends at 0xff
+abbrev pub Rising : ℕ → List Row → Type 0
+Rising start [] = start ≡ 256
+Rising start (r ∷ rs) = (start ≤ r .last) × Rising (suc (r .last)) rs
+
+abbrev pub Rises : Type 0
+Rises = (length overview ≡ 37) × Rising 0 overview
+
+-- how many of the rows hold the byte, where the first begins at start
+abbrev pub rows-of : ℕ → ℕ → List Row → ℕ
+rows-of b start [] = 0
+rows-of b start (r ∷ rs) = cond (leb start b && leb b (r .last)) 1 0 + rows-of b (suc (r .last)) rs
+
+-- each first byte stands in one row alone
+abbrev pub One-row : Type 0
+One-row = (b : ℕ) → b < 256 → rows-of b 0 overview ≡ 1

@@ -1,7 +1,7 @@
 // The first byte of an item, by MessagePack's format overview.
 ghost use mathlib.Core.Path.{_≡_};
 ghost use Rattle.msgpack.specs.Numbers.{wide};
-ghost use Rattle.msgpack.specs.Overview.{marker, Decides-each};
+ghost use Rattle.msgpack.specs.Overview.{marker, Decides-each, Rises, One-row};
 
 // How many bytes a length or a number takes.
 #[derive(Clone, Copy)]
@@ -96,7 +96,9 @@ impl Marker {
 
 // Each of the 256 first bytes is decided by one row of the overview alone.
 pub fn overview_decides() -> u8
-    ensures { λ _. ⌜ Decides-each ⌝ }
+    ensures tells { λ _. ⌜ Decides-each ⌝ }
+    ensures rises { λ _. ⌜ Rises ⌝ }
+    ensures one { λ _. ⌜ One-row ⌝ }
 {
     0
 }

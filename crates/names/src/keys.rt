@@ -5,6 +5,7 @@ ghost use Prim.Native.Nat.{ℕ};
 ghost use Rattle.std.specs.declared.option.Option.{Option as Maybe};
 ghost use Rattle.names.specs.declared.table.Name.{Name as AnyName};
 ghost use Rattle.names.specs.Keys.{key-with, span-name, span-keys, link-name, link-keys, event-name, event-keys, element-name, element-keys, attribute-with, values-with};
+ghost use Rattle.names.specs.Tells.{Tells, attribute-name, values-name, Written-as-text};
 use crate::table::Name;
 
 // A field of a record.
@@ -257,4 +258,17 @@ pub impl Named for ValuesKey as ValuesKeyFound {
             None
         }
     }
+}
+
+// Each field is found by its own name and by nothing else, and each name is written as a text.
+pub fn names_tell() -> u8
+    ensures span { λ _. ⌜ Tells span-name (λ t. key-with span-name t span-keys) ⌝ }
+    ensures link { λ _. ⌜ Tells link-name (λ t. key-with link-name t link-keys) ⌝ }
+    ensures event { λ _. ⌜ Tells event-name (λ t. key-with event-name t event-keys) ⌝ }
+    ensures element { λ _. ⌜ Tells element-name (λ t. key-with element-name t element-keys) ⌝ }
+    ensures attribute { λ _. ⌜ Tells attribute-name attribute-with ⌝ }
+    ensures values { λ _. ⌜ Tells values-name values-with ⌝ }
+    ensures written { λ _. ⌜ Written-as-text ⌝ }
+{
+    0
 }

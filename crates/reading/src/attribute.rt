@@ -1,6 +1,6 @@
 // Attributes of events: a type number and a value.
 ghost use mathlib.Core.Path.{_≡_};
-ghost use Rattle.reading.specs.Judgement.{judged};
+ghost use Rattle.trees.specs.Records.{verdict};
 use faults::ArrayValueFault;
 use faults::ArrayValueFaultFromItem;
 use faults::AttributeFault;
@@ -49,7 +49,7 @@ const ARRAY_TYPE: u8 = 4;
 
 // Whether a value and a type number make an attribute. Both have to be there, and the number has to be the value's.
 fn judge(value_type: Option<u8>, given_type: Option<u8>) -> Result<u8, DecodeError>
-    ensures { λ r. ⌜ r ≡ judged «value_type» «given_type» ⌝ }
+    ensures { λ r. ⌜ r ≡ verdict «value_type» «given_type» ⌝ }
 {
     let Some(value_type) = value_type else {
         return Err(DecodeError::InvalidFormat);

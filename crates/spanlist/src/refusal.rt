@@ -1,5 +1,6 @@
 // Why a payload is not listed.
 ghost use mathlib.Core.Path.{_≡_};
+ghost use Rattle.spanlist.specs.declared.refusal.Refusal.the-variants.{Fault as OfReading, Memory as NoMemory};
 ghost use Rattle.spanlist.specs.Refusals.{refusal-number};
 use faults::PayloadFault;
 use std::alloc::AllocError;
@@ -32,18 +33,24 @@ impl Refusal {
 }
 
 pub impl From<PayloadFault> for Refusal as RefusalFromFault {
+    ghost converts = { λ e r. r ≡ OfReading e };
+
     fn from(e: PayloadFault) -> Refusal {
         Refusal::Fault(e)
     }
 }
 
 pub impl From<AllocError> for Refusal as RefusalFromAlloc {
+    ghost converts = { λ _ r. r ≡ NoMemory };
+
     fn from(_e: AllocError) -> Refusal {
         Refusal::Memory
     }
 }
 
 pub impl<T: Drop> From<Refused<T>> for Refusal as RefusalFromRefused {
+    ghost converts = { λ _ r. r ≡ NoMemory };
+
     fn from(_e: Refused<T>) -> Refusal {
         Refusal::Memory
     }

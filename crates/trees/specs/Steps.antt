@@ -138,21 +138,30 @@ module _ {M : Type 0} (act : M → On → M) where
   abbrev pub tell-link : M → List LinkField → M
   tell-link m fs = act (fold tell-link-field (act m begin-link) fs) end-link
 
+  abbrev pub tell-attributes : M → List Attribute → M
+  tell-attributes m xs = fold tell-attribute (act m begin-attributes) xs
+
   abbrev pub tell-event-field : M → EventField → M
   tell-event-field m (time z) = act m (on-time z)
   tell-event-field m (event-name p) = act m (on-event-name p)
-  tell-event-field m (event-attributes xs) = fold tell-attribute (act m begin-attributes) xs
+  tell-event-field m (event-attributes xs) = tell-attributes m xs
 
   abbrev pub tell-event : M → List EventField → M
   tell-event m fs = act (fold tell-event-field (act m begin-event) fs) end-event
+
+  abbrev pub tell-links : M → List (List LinkField) → M
+  tell-links m ls = fold tell-link (act m begin-links) ls
+
+  abbrev pub tell-events : M → List (List EventField) → M
+  tell-events m es = fold tell-event (act m begin-events) es
 
   abbrev pub tell-field : M → SpanField → M
   tell-field m (text k o) = act m (on-text k o)
   tell-field m (id k z) = act m (on-id k z)
   tell-field m (signed k z) = act m (on-signed k z)
   tell-field m (pairs k ps) = tell-pairs k m ps
-  tell-field m (links ls) = fold tell-link (act m begin-links) ls
-  tell-field m (events es) = fold tell-event (act m begin-events) es
+  tell-field m (links ls) = tell-links m ls
+  tell-field m (events es) = tell-events m es
 
   abbrev pub tell-span : M → List SpanField → M
   tell-span m fs = act (fold tell-field (act m begin-span) fs) end-span

@@ -1,5 +1,5 @@
-use Rattle.msgpack.proofs.Table.{decides-each}
+use Rattle.msgpack.proofs.Table.{decides-each, rises, one-row}
 use Rattle.msgpack.proofs.marker.overview_decides.Needs as need
 
 pub returns : need.returns
-returns c = decides-each
+returns c = record { tells = decides-each; rises = rises; one = one-row }

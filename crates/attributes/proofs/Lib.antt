@@ -1,0 +1,2 @@
+pub mod Attributed
+pub mod Judged
