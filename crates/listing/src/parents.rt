@@ -29,7 +29,7 @@ fn index_spans(spans: &[SpanRow], list: &mut KeyedList<'_, u64, usize>)
 }
 
 // Finds the place of each span's parent: the first span of the trace whose number is the span's parent number.
-// It needs an entry of memory and a place for the answer for each span, and refuses exactly where there are fewer.
+// It needs an entry of memory and a place for the answer for each span, and refuses exactly where there are fewer; then all memory is as it was.
 pub fn find_parents(
     spans: &[SpanRow],
     memory: &mut [Entry<u64, usize>],
@@ -37,6 +37,7 @@ pub fn find_parents(
 ) -> Result<(), Shortage>
     ensures found { λ r. ⌜ made r (λ _. Found (now (spans .entry)) (length (now (memory .entry))) (now (parents .entry)) (now (parents .exit))) ⌝ }
     ensures refused { λ r. ⌜ refused r (λ _. Few (now (spans .entry)) (length (now (memory .entry))) (now (parents .entry)) (now (parents .exit))) ⌝ }
+    ensures untouched { λ r. ⌜ refused r (λ _. now (memory .exit) ≡ now (memory .entry)) ⌝ }
 {
     if memory.len() < spans.len() || parents.len() < spans.len() {
         return Err(Shortage);

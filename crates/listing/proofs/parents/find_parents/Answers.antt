@@ -38,4 +38,5 @@ returns c =
         behind = c .loop-i .inv .2;
       };
       refused = tt;
+      untouched = tt;
     }
