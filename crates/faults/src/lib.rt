@@ -1,4 +1,6 @@
 // Faults: an item's inside its record's, and that inside the payload's.
+#![tactic(auto)]
+
 ghost use Rattle.std.specs.Prelude.{◌≡◌};
 ghost use Rattle.faults.specs.declared.AttributeFault.TheVariants.{Own as OwnAttribute, ArrayValue as InArrayValue};
 ghost use Rattle.faults.specs.declared.EventFault.TheVariants.{Own as OwnEvent, Attribute as InAttribute};

@@ -1,4 +1,6 @@
 // The laws of single items: what is read is an encoding, every encoding is read, what is written is read back, and which faults are told where.
+#![tactic(auto)]
+
 ghost use Rattle.item_laws.specs.Laws.{ReadsEncodings, EncodingsRead, WrittenReadBack, FaultsTold};
 ghost use Rattle.item_laws.specs.Vectors.{WrittenExamples, IntegerExamples, DoubleExamples, TextExamples};
 

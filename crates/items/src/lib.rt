@@ -1,4 +1,6 @@
 // Single MessagePack items, read from a window of bytes.
+#![tactic(auto)]
+
 pub mod buffer;
 pub mod fault;
 pub mod head;

@@ -1,4 +1,6 @@
 // Reads and writes single items as the lines of a table say, and prints what comes of it.
+#![tactic(auto)]
+
 mod reads;
 mod writes;
 

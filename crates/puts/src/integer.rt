@@ -7,7 +7,7 @@ use crate::behind::{put_eight, put_four, put_two};
 use sinks::sink::{Full, Sink};
 
 pub fn put_unsigned<S: Sink>(sink: &mut S, n: u64) -> Result<(), Full>
-    ensures { Put moved (written_integer (pos n)) (state sink.old) (state sink.new) result }
+    ensures { Put S.moved (written_integer (pos n)) (S.state sink.old) (S.state sink.new) result }
 {
     if n < 0x80 {
         return sink.put(&[n as u8]);
@@ -27,7 +27,7 @@ pub fn put_unsigned<S: Sink>(sink: &mut S, n: u64) -> Result<(), Full>
 // The number -1 - n.
 fn put_negative<S: Sink>(sink: &mut S, n: u64) -> Result<(), Full>
     requires { n < 2 ^ 63 }
-    ensures { Put moved (written_integer (negsuc n)) (state sink.old) (state sink.new) result }
+    ensures { Put S.moved (written_integer (negsuc n)) (S.state sink.old) (S.state sink.new) result }
 {
     if n < 0x20 {
         return sink.put(&[0xff - n as u8]);
@@ -45,7 +45,7 @@ fn put_negative<S: Sink>(sink: &mut S, n: u64) -> Result<(), Full>
 }
 
 pub fn put_integer<S: Sink>(sink: &mut S, n: i64) -> Result<(), Full>
-    ensures { Put moved (written_integer n) (state sink.old) (state sink.new) result }
+    ensures { Put S.moved (written_integer n) (S.state sink.old) (S.state sink.new) result }
 {
     let bits = n.cast_unsigned();
     if n >= 0 {

@@ -7,7 +7,7 @@ use crate::behind::{put_four, put_two};
 use sinks::sink::{Full, Sink};
 
 pub fn put_array_len<S: Sink>(sink: &mut S, n: u32) -> Result<(), Full>
-    ensures { Put moved (written_array n) (state sink.old) (state sink.new) result }
+    ensures { Put S.moved (written_array n) (S.state sink.old) (S.state sink.new) result }
 {
     if n < 0x10 {
         return sink.put(&[0x90 + n as u8]);
@@ -19,7 +19,7 @@ pub fn put_array_len<S: Sink>(sink: &mut S, n: u32) -> Result<(), Full>
 }
 
 pub fn put_map_len<S: Sink>(sink: &mut S, n: u32) -> Result<(), Full>
-    ensures { Put moved (written_map n) (state sink.old) (state sink.new) result }
+    ensures { Put S.moved (written_map n) (S.state sink.old) (S.state sink.new) result }
 {
     if n < 0x10 {
         return sink.put(&[0x80 + n as u8]);
@@ -32,7 +32,7 @@ pub fn put_map_len<S: Sink>(sink: &mut S, n: u32) -> Result<(), Full>
 
 // Of a text, in bytes.
 pub fn put_text_len<S: Sink>(sink: &mut S, n: u32) -> Result<(), Full>
-    ensures { Put moved (first_form text_forms n) (state sink.old) (state sink.new) result }
+    ensures { Put S.moved (first_form text_forms n) (S.state sink.old) (S.state sink.new) result }
 {
     if n < 0x20 {
         return sink.put(&[0xa0 + n as u8]);
@@ -63,7 +63,7 @@ pub fn text_head(len: u32) -> usize
 }
 
 pub fn put_binary_len<S: Sink>(sink: &mut S, n: u32) -> Result<(), Full>
-    ensures { Put moved (first_form binary_forms n) (state sink.old) (state sink.new) result }
+    ensures { Put S.moved (first_form binary_forms n) (S.state sink.old) (S.state sink.new) result }
 {
     if n < 0x100 {
         return sink.put(&[0xc4, n as u8]);

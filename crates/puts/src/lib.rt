@@ -1,4 +1,6 @@
 // MessagePack items, written to any sink.
+#![tactic(auto)]
+
 mod behind;
 pub mod fixed;
 pub mod integer;

@@ -8,8 +8,8 @@ use sinks::sink::{Full, Sink};
 
 // A text that does not fit, or that no length of 32 bits tells, is refused and the sink stays as it is.
 pub fn put_text<S: Sink>(sink: &mut S, t: &[u8]) -> Result<(), Full>
-    ensures short { length t.now < 2 ^ 32 → Put moved (written_text t.now) (state sink.old) (state sink.new) result }
-    ensures long { 2 ^ 32 ≤ length t.now → (is_err result ≡ true) × (state sink.new ≡ state sink.old) }
+    ensures short { length t.now < 2 ^ 32 → Put S.moved (written_text t.now) (S.state sink.old) (S.state sink.new) result }
+    ensures long { 2 ^ 32 ≤ length t.now → (is_err result ≡ true) × (S.state sink.new ≡ S.state sink.old) }
 {
     if t.len() > 0xffff_ffff || sink.space() < (text_head(t.len() as u32) + t.len()) as u64 {
         return Err(Full);
@@ -20,8 +20,8 @@ pub fn put_text<S: Sink>(sink: &mut S, t: &[u8]) -> Result<(), Full>
 
 // Likewise.
 pub fn put_binary<S: Sink>(sink: &mut S, b: &[u8]) -> Result<(), Full>
-    ensures short { length b.now < 2 ^ 32 → Put moved (written_binary b.now) (state sink.old) (state sink.new) result }
-    ensures long { 2 ^ 32 ≤ length b.now → (is_err result ≡ true) × (state sink.new ≡ state sink.old) }
+    ensures short { length b.now < 2 ^ 32 → Put S.moved (written_binary b.now) (S.state sink.old) (S.state sink.new) result }
+    ensures long { 2 ^ 32 ≤ length b.now → (is_err result ≡ true) × (S.state sink.new ≡ S.state sink.old) }
 {
     if b.len() > 0xffff_ffff || sink.space() < (binary_head(b.len() as u32) + b.len()) as u64 {
         return Err(Full);

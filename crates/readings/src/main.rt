@@ -1,4 +1,6 @@
 // Reads a line of hexadecimal digits for each payload, and prints what its reading as v04 gives.
+#![tactic(auto)]
+
 use anyhow::anyhow;
 use faults::PayloadFault;
 use reading::receiver::{Receiver, Span};

@@ -1,4 +1,6 @@
 // Reads a v04 payload from standard input and lists its spans.
+#![tactic(auto)]
+
 use anyhow::anyhow;
 use spanlist::line::{HEADER, Line};
 use spanlist::list::{MAX_BYTES, list_payload};

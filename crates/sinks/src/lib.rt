@@ -1,4 +1,6 @@
 // Places that bytes are written to.
+#![tactic(auto)]
+
 pub mod count;
 pub mod sink;
 pub mod slice;

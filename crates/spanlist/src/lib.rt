@@ -1,4 +1,6 @@
 // The listing of a whole payload.
+#![tactic(auto)]
+
 pub mod gather;
 pub mod line;
 pub mod list;

@@ -1,4 +1,6 @@
 // What a payload means: its traces, and the entries that it makes.
+#![tactic(auto)]
+
 ghost use Rattle.traces.specs.Examples.{MeaningExamples};
 
 // Payloads and what they mean.

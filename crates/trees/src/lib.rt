@@ -1,4 +1,6 @@
 // What a payload is made of, and what takes a reading of it.
+#![tactic(auto)]
+
 pub mod keys;
 pub mod receiver;
 pub mod step;

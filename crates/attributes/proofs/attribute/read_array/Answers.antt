@@ -7,9 +7,9 @@ use Rattle.attributes.proofs.attribute.read_array.Goals as goal
 
 pub returns : goal.returns
 returns g c =
-    let w = c.handle-null-marker.ensures.window in
-    let n = c.if-handle-null-marker.ensures in
+    let w = c.handle_null_marker.ensures.window in
+    let n = c.if-handle_null_marker.ensures in
     record {
-      takes = not_null values_of [] (λ bytes. fold (tell_element (g.R.Receiver.act bytes))) nothing _ _ c.read-values.result _ w n.place n.value c.read-values.ensures.takes;
-      window = c.read-values.ensures.window ∙ w;
+      takes = not_null values_of [] (λ bytes. fold (tell_element (g.R.Receiver.act bytes))) nothing _ _ c.read_values.result _ w n.place n.value c.read_values.ensures.takes;
+      window = c.read_values.ensures.window ∙ w;
     }

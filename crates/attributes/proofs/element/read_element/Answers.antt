@@ -7,37 +7,37 @@ use Rattle.attributes.specs.Fields.{element_field}
 use Rattle.attributes.proofs.Judged.{told_verdict, element_done, element_bad, element_cut}
 use Rattle.attributes.proofs.element.read_element.Goals as goal
 
-pub returns-in-err-b : goal.returns-in-err-b
-returns-in-err-b g c =
-    let w₁ = c.read-fields.ensures.window in
-    let w₂ = c.read-element-field.ensures.window ∙ w₁ in
-    let x = opened (λ w. an_element_field w.now) (λ w. tell_element_field (g.R.Receiver.act w.now)) element_field w₁ c.in-ok-a.ensures.takes in
-    let p = err_from_is_err_and c.from-residual-in-err-b.result c.from-residual-in-err-b.ensures.1 in
+pub returns-in_err-b : goal.returns-in_err-b
+returns-in_err-b g c =
+    let w₁ = c.read_fields.ensures.window in
+    let w₂ = c.read_element_field.ensures.window ∙ w₁ in
+    let x = opened (λ w. an_element_field w.now) (λ w. tell_element_field (g.R.Receiver.act w.now)) element_field w₁ c.in_ok-a.ensures.takes in
+    let p = err_from_is_err_and c.from_residual-in_err-b.result c.from_residual-in_err-b.ensures.1 in
     record {
-      takes = rw (p.1, p.2) (element_cut c.args.first c.args.buf.now.window.now c.args.buf.now.pos x.tree c.in-ok-read-fields.ensures.says x.reads (moved (λ w. an_element_field w.now) w₂ c.in-err-b.ensures.takes));
-      window = c.read-element-field-2.ensures.window ∙ w₂;
+      takes = rw (p.1, p.2) (element_cut c.args.first c.args.buf.now.window.now c.args.buf.now.pos x.tree c.in_ok-read_fields.ensures.says x.reads (moved (λ w. an_element_field w.now) w₂ c.in_err-b.ensures.takes));
+      window = c.read_element_field-2.ensures.window ∙ w₂;
     }
 
 pub returns-in-Ok : goal.returns-in-Ok
 returns-in-Ok g c =
-    let w₁ = c.read-fields.ensures.window in
-    let w₂ = c.read-element-field.ensures.window ∙ w₁ in
-    let x = opened (λ w. an_element_field w.now) (λ w. tell_element_field (g.R.Receiver.act w.now)) element_field w₁ c.in-ok-a.ensures.takes in
-    let y = opened (λ w. an_element_field w.now) (λ w. tell_element_field (g.R.Receiver.act w.now)) element_field w₂ c.in-ok-b.ensures.takes in
+    let w₁ = c.read_fields.ensures.window in
+    let w₂ = c.read_element_field.ensures.window ∙ w₁ in
+    let x = opened (λ w. an_element_field w.now) (λ w. tell_element_field (g.R.Receiver.act w.now)) element_field w₁ c.in_ok-a.ensures.takes in
+    let y = opened (λ w. an_element_field w.now) (λ w. tell_element_field (g.R.Receiver.act w.now)) element_field w₂ c.in_ok-b.ensures.takes in
     let v = told_verdict c.args.first x.tree y.tree x.answers y.answers ∙ sym c.in-Ok.ensures in
     record {
-      takes = element_done (g.R.Receiver.act c.args.buf.now.window.now) c.args.first c.args.buf.now.window.now c.args.buf.now.pos x.tree y.tree c.in-ok-read-fields.ensures.says x.reads y.reads _ x.works y.works v;
-      window = c.read-element-field-2.ensures.window ∙ w₂;
+      takes = element_done (g.R.Receiver.act c.args.buf.now.window.now) c.args.first c.args.buf.now.window.now c.args.buf.now.pos x.tree y.tree c.in_ok-read_fields.ensures.says x.reads y.reads _ x.works y.works v;
+      window = c.read_element_field-2.ensures.window ∙ w₂;
     }
 
 pub returns-in-Err : goal.returns-in-Err
 returns-in-Err g c =
-    let w₁ = c.read-fields.ensures.window in
-    let w₂ = c.read-element-field.ensures.window ∙ w₁ in
-    let x = opened (λ w. an_element_field w.now) (λ w. tell_element_field (g.R.Receiver.act w.now)) element_field w₁ c.in-ok-a.ensures.takes in
-    let y = opened (λ w. an_element_field w.now) (λ w. tell_element_field (g.R.Receiver.act w.now)) element_field w₂ c.in-ok-b.ensures.takes in
+    let w₁ = c.read_fields.ensures.window in
+    let w₂ = c.read_element_field.ensures.window ∙ w₁ in
+    let x = opened (λ w. an_element_field w.now) (λ w. tell_element_field (g.R.Receiver.act w.now)) element_field w₁ c.in_ok-a.ensures.takes in
+    let y = opened (λ w. an_element_field w.now) (λ w. tell_element_field (g.R.Receiver.act w.now)) element_field w₂ c.in_ok-b.ensures.takes in
     let v = told_verdict c.args.first x.tree y.tree x.answers y.answers ∙ sym c.in-Err.ensures in
     record {
-      takes = element_bad (g.R.Receiver.act c.args.buf.now.window.now) c.args.first c.args.buf.now.window.now c.args.buf.now.pos x.tree y.tree c.in-ok-read-fields.ensures.says x.reads y.reads v;
-      window = c.read-element-field-2.ensures.window ∙ w₂;
+      takes = element_bad (g.R.Receiver.act c.args.buf.now.window.now) c.args.first c.args.buf.now.window.now c.args.buf.now.pos x.tree y.tree c.in_ok-read_fields.ensures.says x.reads y.reads v;
+      window = c.read_element_field-2.ensures.window ∙ w₂;
     }

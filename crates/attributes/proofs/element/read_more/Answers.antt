@@ -8,14 +8,14 @@ pub loop-init : goal.loop-init
 loop-init g c = start
 
 pub loop-preserved : goal.loop-preserved
-loop-preserved g c = turn element_type c.in-ok-read-element.field-0 c.loop.invariant c.loop-test.true c.in-ok-read-element.ensures.takes c.read-element.ensures.window
+loop-preserved g c = turn element_type c.in_ok-read_element.field-0 c.loop.invariant c.loop-test.true c.in_ok-read_element.ensures.takes c.read_element.ensures.window
 
-pub returns-in-err-read-element : goal.returns-in-err-read-element
-returns-in-err-read-element g c =
-    let p = err_from_is_err_and c.from-residual.result c.from-residual.ensures.1 in
+pub returns-in_err-read_element : goal.returns-in_err-read_element
+returns-in_err-read_element g c =
+    let p = err_from_is_err_and c.from_residual.result c.from_residual.ensures.1 in
     record {
-      takes = rw (p.1, p.2) (breaks_plain c.loop.invariant c.loop-test.true c.in-err-read-element.ensures.takes);
-      window = c.read-element.ensures.window ∙ c.loop.invariant.same;
+      takes = rw (p.1, p.2) (breaks_plain c.loop.invariant c.loop-test.true c.in_err-read_element.ensures.takes);
+      window = c.read_element.ensures.window ∙ c.loop.invariant.same;
     }
 
 pub returns : goal.returns

@@ -15,7 +15,7 @@ loop-i-preserved c =
     let i = c.loop-i.i in
     let within : i < length parents = omega (arith, c.loop-i.invariant.1) in
     let keeps : length (set parents i c.get.result) ≡ length parents = simp length-set in (
-      one_more (λ (s : SpanRow). first_with s.parent_id spans 0) spans i _ (take i parents) _ c.get.result c.loop-i-test.true (take_more_set parents i c.get.result within) c.loop-i.invariant.0 (c.get.ensures ∙ c.index-spans.ensures _),
+      one_more (λ (s : SpanRow). first_with s.parent_id spans 0) spans i _ (take i parents) _ c.get.result c.loop-i-test.true (take_more_set parents i c.get.result within) c.loop-i.invariant.0 (c.get.ensures ∙ c.index_spans.ensures _),
       keeps ∙ c.loop-i.invariant.1,
       drop-set-lt (length spans) parents i c.get.result c.loop-i-test.true ∙ c.loop-i.invariant.2,
     )

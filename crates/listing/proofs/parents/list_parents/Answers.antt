@@ -16,5 +16,5 @@ all (Err x) spans entries n old new rest p q a b d e = absurd (enough spans entr
 
 pub returns : goal.returns
 returns c =
-    all c.find-parents.result c.args.spans.now _ _ c.as-mut-slice-2.result.now c.find-parents.new.parents _ c.find-parents.ensures.found c.find-parents.ensures.refused
-    (c.as-mut-slice.ensures.len ∙ c.in-ok-memory.ensures.len) (c.as-mut-slice-2.ensures.len ∙ c.in-ok-parents.ensures.len) c.find-parents.auto.parents c.in-ok-parents.ensures.len
+    all c.find_parents.result c.args.spans.now _ _ c.as_mut_slice-2.result.now c.find_parents.new.parents _ c.find_parents.ensures.found c.find_parents.ensures.refused
+    (c.as_mut_slice.ensures.len ∙ c.in_ok-memory.ensures.len) (c.as_mut_slice-2.ensures.len ∙ c.in_ok-parents.ensures.len) c.find_parents.auto.parents c.in_ok-parents.ensures.len

@@ -8,14 +8,14 @@ pub loop-init : goal.loop-init
 loop-init g c = start
 
 pub loop-preserved : goal.loop-preserved
-loop-preserved g c = turn nothing tt c.loop.invariant c.loop-test.true c.in-ok-tell-pair.ensures.takes c.tell-pair.ensures.window
+loop-preserved g c = turn nothing tt c.loop.invariant c.loop-test.true c.in_ok-tell_pair.ensures.takes c.tell_pair.ensures.window
 
-pub returns-in-err-tell-pair : goal.returns-in-err-tell-pair
-returns-in-err-tell-pair g c =
-    let p = err_from_is_err_and c.from-residual.result c.from-residual.ensures.1 in
+pub returns-in_err-tell_pair : goal.returns-in_err-tell_pair
+returns-in_err-tell_pair g c =
+    let p = err_from_is_err_and c.from_residual.result c.from_residual.ensures.1 in
     record {
-      takes = rw (p.1, p.2) (breaks_plain c.loop.invariant c.loop-test.true c.in-err-tell-pair.ensures.takes);
-      window = c.tell-pair.ensures.window ∙ c.loop.invariant.same;
+      takes = rw (p.1, p.2) (breaks_plain c.loop.invariant c.loop-test.true c.in_err-tell_pair.ensures.takes);
+      window = c.tell_pair.ensures.window ∙ c.loop.invariant.same;
     }
 
 pub returns : goal.returns

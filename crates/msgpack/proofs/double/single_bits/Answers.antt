@@ -19,10 +19,10 @@ module _ (b : ℕ) where
   wide_value h = ap (λ t. cond t (widened_nan b) (to_bits binary64 (of_bits binary32 b))) (nan_bits_above binary32 b ∙ upto (b % 2147483648) h)
 
 pub returns-then-bits-gt2139095040 : goal.returns-then-bits-gt2139095040
-returns-then-bits-gt2139095040 c = c.nan-bits.ensures ∙ sym (wide_nan c.args.bits (omega arith))
+returns-then-bits-gt2139095040 c = c.nan_bits.ensures ∙ sym (wide_nan c.args.bits (omega arith))
 
 pub returns : goal.returns
 returns c =
-    c.f64-to-bits-with-nan.ensures
-    ∙ ap (to_bits binary64) (c.f32-to-f64-with-nan.ensures ∙ c.f32-from-bits-with-nan.ensures)
+    c.f64_to_bits_with_nan.ensures
+    ∙ ap (to_bits binary64) (c.f32_to_f64_with_nan.ensures ∙ c.f32_from_bits_with_nan.ensures)
     ∙ sym (wide_value c.args.bits (omega arith))

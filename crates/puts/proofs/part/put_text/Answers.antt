@@ -4,7 +4,7 @@ use Rattle.puts.proofs.part.put_text.Goals as goal
 
 pub returns : goal.returns
 returns g c =
-    let head = c.in-ok-put-text-len.ensures.sent.wrote in
+    let head = c.in_ok-put_text_len.ensures.sent.wrote in
     record {
       short = λ h. put_then g.S.Sink.laws _ _ _ c.put.result (omega arith) head c.put.ensures;
       long = λ h. absurd (omega arith);

@@ -8,14 +8,14 @@ pub loop-init : goal.loop-init
 loop-init g c = start
 
 pub loop-preserved : goal.loop-preserved
-loop-preserved g c = turn nothing tt c.loop.invariant c.loop-test.true c.in-ok-read-event.ensures.takes c.read-event.ensures.window
+loop-preserved g c = turn nothing tt c.loop.invariant c.loop-test.true c.in_ok-read_event.ensures.takes c.read_event.ensures.window
 
-pub returns-in-err-read-event : goal.returns-in-err-read-event
-returns-in-err-read-event g c =
-    let p = err_from_is_err_and c.from-residual.result c.from-residual.ensures.1 in
+pub returns-in_err-read_event : goal.returns-in_err-read_event
+returns-in_err-read_event g c =
+    let p = err_from_is_err_and c.from_residual.result c.from_residual.ensures.1 in
     record {
-      takes = rw (p.1, p.2) (breaks_plain c.loop.invariant c.loop-test.true c.in-err-read-event.ensures.takes);
-      window = c.read-event.ensures.window ∙ c.loop.invariant.same;
+      takes = rw (p.1, p.2) (breaks_plain c.loop.invariant c.loop-test.true c.in_err-read_event.ensures.takes);
+      window = c.read_event.ensures.window ∙ c.loop.invariant.same;
     }
 
 pub returns : goal.returns

@@ -8,14 +8,14 @@ pub loop-init : goal.loop-init
 loop-init g c = start
 
 pub loop-preserved : goal.loop-preserved
-loop-preserved g c = turn nothing tt c.loop.invariant c.loop-test.true c.in-ok-read-field.ensures.takes c.read-field.ensures.window
+loop-preserved g c = turn nothing tt c.loop.invariant c.loop-test.true c.in_ok-read_field.ensures.takes c.read_field.ensures.window
 
-pub returns-in-err-read-field : goal.returns-in-err-read-field
-returns-in-err-read-field g c =
-    let p = err_from_is_err_and c.from-residual.result c.from-residual.ensures.1 in
+pub returns-in_err-read_field : goal.returns-in_err-read_field
+returns-in_err-read_field g c =
+    let p = err_from_is_err_and c.from_residual.result c.from_residual.ensures.1 in
     record {
-      takes = rw (p.1, p.2) (breaks_plain c.loop.invariant c.loop-test.true c.in-err-read-field.ensures.takes);
-      window = c.read-field.ensures.window ∙ c.loop.invariant.same;
+      takes = rw (p.1, p.2) (breaks_plain c.loop.invariant c.loop-test.true c.in_err-read_field.ensures.takes);
+      window = c.read_field.ensures.window ∙ c.loop.invariant.same;
     }
 
 pub returns : goal.returns

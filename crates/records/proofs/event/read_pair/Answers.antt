@@ -12,13 +12,13 @@ returns g c =
     let act = g.R.Receiver.act in
     let bytes = c.args.buf.now.window.now in
     let m = g.R.Receiver.state c.args.to.now in
-    let m' = g.R.Receiver.state c.read-attribute.new.to in
-    let key = piece_of c.in-ok-key.key in
-    let at₁ = c.read-text.new.self.pos in
-    let w = c.read-text.ensures.window in
-    let body = subst (λ u. then (attribute_value key u.now at₁) (λ x next. got (with (tell_attribute (act u.now) m x) (nothing x)) next) ≡ got (with m' tt) c.read-attribute.new.buf.pos) w c.in-ok-read-attribute.ensures.takes in
+    let m' = g.R.Receiver.state c.read_attribute.new.to in
+    let key = piece_of c.in_ok-key.key in
+    let at₁ = c.read_text.new.self.pos in
+    let w = c.read_text.ensures.window in
+    let body = subst (λ u. then (attribute_value key u.now at₁) (λ x next. got (with (tell_attribute (act u.now) m x) (nothing x)) next) ≡ got (with m' tt) c.read_attribute.new.buf.pos) w c.in_ok-read_attribute.ensures.takes in
     record {
-      takes = ap (λ o. then (then (raised Own o) (λ k at. raised Attribute (attribute_value k bytes at))) (λ x next. got (with (tell_attribute (act bytes) m x) (nothing x)) next)) c.in-ok-key.ensures.gives
+      takes = ap (λ o. then (then (raised Own o) (λ k at. raised Attribute (attribute_value k bytes at))) (λ x next. got (with (tell_attribute (act bytes) m x) (nothing x)) next)) c.in_ok-key.ensures.gives
           ∙ raised_got Attribute (attribute_value key bytes at₁) (λ x. with (tell_attribute (act bytes) m x) (nothing x)) body;
-      window = c.read-attribute.ensures.window ∙ w;
+      window = c.read_attribute.ensures.window ∙ w;
     }

@@ -8,14 +8,14 @@ pub loop-init : goal.loop-init
 loop-init g c = start
 
 pub loop-preserved : goal.loop-preserved
-loop-preserved g c = turn nothing tt c.loop.invariant c.loop-test.true c.in-ok-read-link.ensures.takes c.read-link.ensures.window
+loop-preserved g c = turn nothing tt c.loop.invariant c.loop-test.true c.in_ok-read_link.ensures.takes c.read_link.ensures.window
 
-pub returns-in-err-read-link : goal.returns-in-err-read-link
-returns-in-err-read-link g c =
-    let p = err_from_is_err_and c.from-residual.result c.from-residual.ensures.1 in
+pub returns-in_err-read_link : goal.returns-in_err-read_link
+returns-in_err-read_link g c =
+    let p = err_from_is_err_and c.from_residual.result c.from_residual.ensures.1 in
     record {
-      takes = rw (p.1, p.2) (breaks_plain c.loop.invariant c.loop-test.true c.in-err-read-link.ensures.takes);
-      window = c.read-link.ensures.window ∙ c.loop.invariant.same;
+      takes = rw (p.1, p.2) (breaks_plain c.loop.invariant c.loop-test.true c.in_err-read_link.ensures.takes);
+      window = c.read_link.ensures.window ∙ c.loop.invariant.same;
     }
 
 pub returns : goal.returns

@@ -3,10 +3,10 @@ use Rattle.std.proofs.lemmas.Result.{err_from_is_err_and}
 use Rattle.sinks.proofs.Fronts.{into_made, into_length, into_refused, into_over}
 use Rattle.sinks.proofs.slice.put_into.Goals as goal
 
-pub returns-in-err-put : goal.returns-in-err-put
-returns-in-err-put c =
-    let p = err_from_is_err_and c.from-residual.result c.from-residual.ensures.1 in
-    let put = c.in-err-put.ensures in
+pub returns-in_err-put : goal.returns-in_err-put
+returns-in_err-put c =
+    let p = err_from_is_err_and c.from_residual.result c.from_residual.ensures.1 in
+    let put = c.in_err-put.ensures in
     let last = c.put.new.self in
     let out = c.args.out.now in
     let run = c.args.run.now in
@@ -17,7 +17,7 @@ returns-in-err-put c =
 
 pub returns : goal.returns
 returns c =
-    let put = c.in-ok-put.ensures in
+    let put = c.in_ok-put.ensures in
     let last = c.put.new.self in
     let out = c.args.out.now in
     let run = c.args.run.now in

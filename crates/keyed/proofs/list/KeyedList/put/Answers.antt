@@ -16,5 +16,5 @@ returns g c =
     let laws = g.S.Sameness.laws c.args.sameness.now in
     let self = c.args.self.now in
     let free : self.len < length self.entries.now = omega arith in
-    let k = unknown same laws c.args.key c.args.value self.len self.entries.now (sym c.in-default.ensures.place) free in
+    let k = unknown same laws c.args.key c.args.value self.len self.entries.now (sym c.in_default.ensures.place) free in
     record { answer = k.0; memory = k.1; lender = refl; used = k.2; finds = k.3 }
