@@ -7,10 +7,10 @@ use Rattle.trees.specs.Tree.{array}
 use Rattle.attributes.specs.Fields.{attribute_field}
 use Rattle.attributes.proofs.attribute.read_by_key.Goals as goal
 
-pub returns-in_ok-read_array : goal.returns-in_ok-read_array
-returns-in_ok-read_array g c =
+pub returns-in_ok-read_array-in-ArrayValue : goal.returns-in_ok-read_array-in-ArrayValue
+returns-in_ok-read_array-in-ArrayValue g c =
     let w = c.args.buf.now.window.now in
     record {
-      takes = rw c.in-ArrayValue.is (into_answered (nullable [] values_of w c.args.buf.now.pos) array (tell_attribute_field (g.R.Receiver.act w) (g.R.Receiver.state c.args.to.now)) attribute_field (Valued 4) (λ es. refl) c.in_ok-read_array.ensures.takes);
+      takes = rw c.in-ArrayValue.is (into_answered (nullable [] values_of w c.args.buf.now.pos) array (tell_attribute_field (g.R.Receiver.act w) (g.R.Receiver.state c.args.to.now)) attribute_field (Valued 4) (λ es. refl) c.in_ok-read_array-in-ArrayValue.ensures.takes);
       window = c.read_array.ensures.window;
     }
