@@ -1,5 +1,5 @@
 -- What the two fields of an attribute come to. Assumes nothing.
-use Rattle.std.proofs.Common.{◌≡◌, ℕ, List, Ok, Err, Option, Result, sym, refl, ap, ◌∙◌}
+use Rattle.std.proofs.Common.{◌≡◌, ℕ, List, Ok, Err, Result, sym, ap, ◌∙◌}
 use Rattle.items.specs.declared.fault.DecodeError.{DecodeError}
 use Rattle.items.specs.Items.{Piece}
 use Rattle.items.specs.Reads.{Outcome, got, fault, then, raised, with, nothing}

@@ -1,8 +1,8 @@
 -- What two fields come to. Assumes nothing.
-use Rattle.std.proofs.Common.{◌≡◌, ℕ, zero, suc, ◌-◌, ◌<◌, Bool, true, false, cond, eqb, List, ◌∷◌, Some, None, Ok, Err, Option, Result, sym, refl, ap, ◌∙◌, arith}
+use Rattle.std.proofs.Common.{◌≡◌, ℕ, zero, suc, ◌-◌, ◌<◌, Bool, true, false, cond, eqb, List, ◌∷◌, Some, None, Ok, Err, Option, Result, refl, ap, ◌∙◌, arith}
 use Rattle.items.specs.declared.fault.DecodeError.{DecodeError}
 use Rattle.items.specs.declared.fault.ItemFault.{ItemFault}
-use Rattle.items.specs.Reads.{Outcome, got, fault, then, raised, times, fold, With, with, nothing}
+use Rattle.items.specs.Reads.{Outcome, got, fault, then, raised, times, fold, with, nothing}
 use Rattle.items.proofs.Turns.{into_answered}
 use Rattle.faults.specs.declared.ArrayValueFault.{ArrayValueFault}
 use Rattle.faults.specs.Faults.{in_array_value}

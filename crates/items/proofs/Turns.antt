@@ -1,6 +1,6 @@
 -- The turns of a loop that reads n of a kind and works each into a state. Assumes nothing.
-use Rattle.std.proofs.Common.{◌≡◌, ℕ, zero, suc, ◌+◌, ◌-◌, ◌<◌, ◌≤◌, List, [], ◌∷◌, sym, refl, ap, ◌∙◌, subst, arith}
-use Rattle.items.specs.Reads.{Outcome, got, fault, then, raised, times, numbered, fold, With, with, nothing}
+use Rattle.std.proofs.Common.{◌≡◌, ℕ, zero, suc, ◌+◌, ◌-◌, ◌<◌, ◌≤◌, List, ◌∷◌, refl, ap, ◌∙◌, subst, arith}
+use Rattle.items.specs.Reads.{Outcome, got, fault, then, raised, times, numbered, fold, with, nothing}
 
 module _ {E A M : Type 0} (p : ℕ → ℕ → Outcome E A) (step : M → A → M) where
   -- what n more lead to, the first of them numbered i

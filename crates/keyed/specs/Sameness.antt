@@ -1,5 +1,5 @@
 -- What sameness of keys has to be. Assumes nothing.
-use Rattle.std.specs.Prelude.{◌≡◌, ℕ, Bool, true, nat_eq, refl}
+use Rattle.std.specs.Prelude.{◌≡◌, Bool, true, nat_eq, refl}
 use Rattle.std.proofs.Common.{sym, ◌∙◌, eqb-true, eq-eqb}
 
 pub record Laws {K : Type 0} (alike : K → K → Bool) : Type 0 where

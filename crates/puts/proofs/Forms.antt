@@ -1,7 +1,7 @@
 -- The first form that takes a number is an encoding, and no other form is shorter. Assumes nothing.
-use Rattle.std.proofs.Common.{◌≡◌, ℕ, ◌^◌, ◌<◌, ◌≤◌, true, false, ltb, ◌⊎◌, List, [], ◌∷◌, ◌++◌, length, ℤ, pos, negsuc, sym, refl, ap, inl, inr, arith, lit≤, length-append}
+use Rattle.std.proofs.Common.{◌≡◌, ℕ, ◌^◌, ◌<◌, ◌≤◌, true, false, ltb, List, [], ◌∷◌, ◌++◌, length, pos, negsuc, sym, refl, ap, inl, inr, arith, lit≤, length-append}
 use Rattle.std.proofs.lemmas.Bool.{cond_both, ltb-true, ltb-false}
-use Rattle.msgpack.specs.Encodings.{Form, far, unsigned_forms, signed_forms, negative_forms, text_forms, binary_forms, array_forms, map_forms, By, Headed, first_form, boolean, integer, float64, text, binary, array, map, written_integer, written_text, written_binary, written_array, written_map, written_boolean, fixed_i64}
+use Rattle.msgpack.specs.Encodings.{Form, far, unsigned_forms, signed_forms, negative_forms, text_forms, binary_forms, array_forms, map_forms, By, Headed, first_form, boolean, integer, text, binary, array, map, written_integer, written_text, written_binary, written_array, written_map, written_boolean, fixed_i64}
 use Rattle.puts.specs.Laws.{Encoded, Shortest, FitsEither, FitsSigned}
 
 -- the first form that takes a number is one of the forms, where the last takes it

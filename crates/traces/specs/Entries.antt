@@ -1,5 +1,5 @@
 -- The entries that a payload makes in tables 1 to 9, and the text bytes that it stores. Assumes nothing.
-use Rattle.std.specs.Prelude.{ℕ, zero, suc, ◌+◌, cond, List, [], ◌∷◌, ◌++◌, map, length, ℤ, pos, Some, None, Option}
+use Rattle.std.specs.Prelude.{ℕ, zero, suc, ◌+◌, List, [], ◌∷◌, ◌++◌, length, ℤ, pos, Some, None, Option}
 use Rattle.items.specs.Items.{Piece}
 use Rattle.items.specs.Parts.{Shown, text, bytes, index, double}
 use Rattle.items.specs.Reads.{fold}
@@ -15,7 +15,7 @@ use Rattle.trees.specs.Tree as tree
 use Rattle.trees.specs.Tree.{Single, ElementField, Element, element, AttributeField, Attribute, attribute, Pair, pair, LinkField, EventField, SpanField, Payload}
 use Rattle.traces.specs.Traces.{Held, ArrayValue}
 use Rattle.traces.specs.Traces as the
-use Rattle.traces.specs.Meaning.{given_or, latest, keyed, no_piece, said_if, text_pairs, metric_pairs, single_of, text_at, id_at, signed_at, pairs_at, links_at, events_at, link_id_at, link_attributes_at, tracestate_at, flags_at, time_at, event_name_at, event_attributes_at}
+use Rattle.traces.specs.Meaning.{latest, keyed, no_piece, said_if, text_pairs, metric_pairs, single_of, text_at, id_at, signed_at, pairs_at, links_at, events_at, link_id_at, link_attributes_at, tracestate_at, flags_at, time_at, event_name_at, event_attributes_at}
 
 -- a list as its first entry and its count; 0 and 0 if it is empty
 pub record Run : Type 0 where

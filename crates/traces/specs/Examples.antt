@@ -1,6 +1,6 @@
 -- Payloads and what they mean, by computation. Assumes nothing.
 use Rattle.std.specs.Prelude.{◌≡◌, ℕ, List, [], ◌∷◌, length, pos, negsuc}
-use Rattle.items.specs.Reads.{Outcome, got, then}
+use Rattle.items.specs.Reads.{got}
 use Rattle.trees.specs.Payloads.{v04, v05}
 use Rattle.trees.specs.Records.{into}
 use Rattle.traces.specs.Entries.{add_payload, empty, text_bytes}

@@ -1,5 +1,5 @@
 -- The traces that the tables hold: each list is taken from its table. Assumes nothing.
-use Rattle.std.specs.Prelude.{ℕ, ◌+◌, ◌≤◌, cond, List, [], ◌∷◌, map, length, take, drop, pos, ◌==◌}
+use Rattle.std.specs.Prelude.{◌+◌, ◌≤◌, cond, List, [], ◌∷◌, map, length, take, drop, pos, ◌==◌}
 use Rattle.std.specs.List.{AllByRecursion as All}
 use Rattle.traces.specs.Entries.{Run, SpanRow, LinkRow, EventRow, Typed, Tables}
 use Rattle.traces.specs.Traces.{Held, ArrayValue, integer, AnyValue, single, array, Link, Event, Span, Trace}

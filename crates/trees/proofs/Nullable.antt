@@ -1,5 +1,5 @@
 -- A reading where null could have stood, and did not. Assumes nothing.
-use Rattle.std.proofs.Common.{◌≡◌, ℕ, ◌+◌, false, cond, List, Result, sym, ap, ◌∙◌, subst, Bor}
+use Rattle.std.proofs.Common.{◌≡◌, ℕ, ◌+◌, false, cond, List, Result, sym, ap, subst, Bor}
 use Rattle.items.specs.Items.{null_at}
 use Rattle.items.specs.Reads.{Outcome, got, Takes}
 use Rattle.trees.specs.Records.{nullable}

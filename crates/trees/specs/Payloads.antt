@@ -1,18 +1,17 @@
 -- The readings of whole payloads, v04 and v05. Assumes nothing.
-use Rattle.std.specs.Prelude.{ℕ, cond, List, [], ◌∷◌, length, pos, Some, None, Option, ◌==◌}
+use Rattle.std.specs.Prelude.{ℕ, cond, List, [], ◌∷◌, length, pos, Some, None, ◌==◌}
 use Rattle.items.specs.declared.fault.DecodeError.TheVariants.{InvalidType, InvalidFormat}
 use Rattle.items.specs.declared.fault.ItemFault.{ItemFault}
 use Rattle.items.specs.declared.head.Kind.TheVariants as kind
 use Rattle.items.specs.declared.item.ItemKind.TheVariants as item_kind
-use Rattle.items.specs.Items.{Piece, at_item, a_length, a_text, all_causes, null_at}
-use Rattle.items.specs.Parts.{Shown, an_item}
-use Rattle.items.specs.Reads.{Outcome, got, fault, then, raised, times, numbered}
+use Rattle.items.specs.Items.{Piece, at_item, a_length, a_text, all_causes}
+use Rattle.items.specs.Parts.{an_item}
+use Rattle.items.specs.Reads.{Outcome, got, then, raised, times, numbered}
 use Rattle.names.specs.declared.keys.SpanKey.{SpanKey}
 use Rattle.names.specs.declared.keys.SpanKey.TheVariants as span_key
 use Rattle.names.specs.Keys.{key_with, span_name, span_keys}
 use Rattle.faults.specs.declared.DictionaryFault.{DictionaryFault}
 use Rattle.faults.specs.declared.PayloadFault.{PayloadFault}
-use Rattle.faults.specs.declared.RecordFault.{RecordFault}
 use Rattle.faults.specs.declared.SpanFault.{SpanFault}
 use Rattle.faults.specs.declared.SpanFault.TheVariants as span_fault
 use Rattle.faults.specs.Faults.{as_dictionary, in_dictionary, in_payload, in_span, counted}

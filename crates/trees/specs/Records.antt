@@ -1,5 +1,5 @@
 -- The readings of the parts of a payload: maps, attributes, links, events. Assumes nothing.
-use Rattle.std.specs.Prelude.{ℕ, zero, suc, ◌+◌, Bool, cond, List, [], ◌∷◌, ℤ, pos, negsuc, Some, None, Ok, Err, Option, Result, ◌==◌}
+use Rattle.std.specs.Prelude.{ℕ, zero, suc, ◌+◌, cond, List, [], ◌∷◌, ℤ, pos, negsuc, Some, None, Ok, Err, Option, Result, ◌==◌}
 use Rattle.items.specs.declared.fault.DecodeError.{DecodeError}
 use Rattle.items.specs.declared.fault.DecodeError.TheVariants.{InvalidType, InvalidFormat}
 use Rattle.items.specs.declared.fault.ItemFault.{ItemFault}
@@ -9,7 +9,7 @@ use Rattle.items.specs.declared.item.ItemKind.TheVariants as item_kind
 use Rattle.items.specs.declared.length.Causes.{Causes}
 use Rattle.items.specs.Items.{Piece, at_item, a_length, a_text, an_integer, a_double, a_truth, null_at, all_causes, value_causes}
 use Rattle.items.specs.Parts.{an_item}
-use Rattle.items.specs.Reads.{Outcome, got, fault, then, raised, times}
+use Rattle.items.specs.Reads.{Outcome, got, then, raised, times}
 use Rattle.names.specs.declared.keys.AttributeAnyKey.{AttributeAnyKey}
 use Rattle.names.specs.declared.keys.AttributeAnyKey.TheVariants as any_key
 use Rattle.names.specs.declared.keys.AttributeArrayKey.{AttributeArrayKey}

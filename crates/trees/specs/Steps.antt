@@ -1,5 +1,5 @@
 -- How a tree is told, step by step, to what receives it. Assumes nothing.
-use Rattle.std.specs.Prelude.{ℕ, List, [], ◌∷◌, ℤ, pos, Some, None, Option}
+use Rattle.std.specs.Prelude.{ℕ, List, ℤ, pos, Some, None, Option}
 use Rattle.items.specs.Items.{Piece}
 use Rattle.items.specs.Parts.{Shown, shown, piece_of}
 use Rattle.items.specs.Reads.{fold}

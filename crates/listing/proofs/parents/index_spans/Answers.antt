@@ -1,4 +1,4 @@
-use Rattle.std.proofs.Common.{◌≡◌, ℕ, ◌+◌, ◌-◌, ◌<◌, ◌≤◌, cond, eqb, length, get_or, take, drop, pos, Some, Ok, Err, Result, sym, refl, ap, ◌∙◌, arith, MatchResult}
+use Rattle.std.proofs.Common.{◌≡◌, ℕ, ◌-◌, ◌<◌, cond, eqb, length, get_or, take, drop, pos, Some, Ok, Err, Result, sym, ap, ◌∙◌, arith, MatchResult}
 use Rattle.keyed.specs.Keyed.{value_of}
 use Rattle.keyed.proofs.Seeks.{kept_room}
 use Rattle.listing.specs.declared.row.SpanRow.{SpanRow}

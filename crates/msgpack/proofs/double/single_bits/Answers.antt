@@ -1,5 +1,5 @@
-use Rattle.std.proofs.Common.{◌≡◌, ℕ, ◌+◌, ◌*◌, ◌/◌, ◌%◌, ◌^◌, ◌<◌, ◌≤◌, true, false, cond, ltb, sym, refl, ap, ◌∙◌, arith}
-use lib.Ieee.{binary32, binary64, of_bits, to_bits, nan_bits}
+use Rattle.std.proofs.Common.{◌≡◌, ℕ, ◌%◌, ◌<◌, ◌≤◌, true, false, cond, ltb, sym, ap, ◌∙◌, arith}
+use lib.Ieee.{binary32, binary64, of_bits, to_bits}
 use lib.Ieee.Bits.{nan_bits_above}
 use Rattle.std.proofs.lemmas.Bool.Decides.{nat_tests}
 use Rattle.msgpack.specs.Doubles.{widened, widened_nan}
