@@ -1,13 +1,13 @@
 // Reads a v04 payload from standard input and lists its spans.
 #![tactic(auto)]
 
-use anyhow::anyhow;
 use spanlist::line::{HEADER, Line};
 use spanlist::list::{MAX_BYTES, list_payload};
 use spanlist::refusal::Refusal;
 use std::alloc::Global;
 use std::fmt::Write;
 use std::io::Read;
+use std::process::ExitCode;
 
 // The whole table as text.
 fn table(heap: Global, lines: &[Line]) -> anyhow::Result<String> {
@@ -20,15 +20,15 @@ fn table(heap: Global, lines: &[Line]) -> anyhow::Result<String> {
 }
 
 // Prints a refusal, and ends with it.
-fn refuse(rt: &HostRuntime, refusal: Refusal) -> anyhow::Result<()> {
-    let Some(number) = refusal.number() else {
-        return Err(anyhow!("no memory"));
-    };
-    println!(rt; "refused,{number}")?;
-    Err(anyhow!("refused"))
+fn refuse(rt: &HostRuntime, refusal: Refusal) -> anyhow::Result<ExitCode> {
+    if let Some(number) = refusal.number() {
+        println!(rt; "refused,{number}")?;
+    }
+    Ok(ExitCode::FAILURE)
 }
 
-fn main(rt: HostRuntime) -> anyhow::Result<()> {
+// Lists what standard input holds, and answers how to end.
+fn list(rt: &HostRuntime) -> anyhow::Result<ExitCode> {
     let heap = rt.alloc();
     let mut payload = Vec::new(heap);
     rt.stdin()
@@ -38,8 +38,12 @@ fn main(rt: HostRuntime) -> anyhow::Result<()> {
         Ok(lines) => {
             let text = table(heap, lines.as_slice())?;
             rt.print(text)?;
-            Ok(())
+            Ok(ExitCode::SUCCESS)
         }
-        Err(refusal) => refuse(&rt, refusal),
+        Err(refusal) => refuse(rt, refusal),
     }
+}
+
+fn main(rt: HostRuntime) -> ExitCode {
+    list(&rt).unwrap_or(ExitCode::FAILURE)
 }
