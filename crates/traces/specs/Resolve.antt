@@ -1,6 +1,6 @@
 -- The traces that the tables hold: each list is taken from its table. Assumes nothing.
 use Rattle.std.specs.Prelude.{◌+◌, ◌≤◌, cond, List, [], ◌∷◌, map, length, take, drop, pos, ◌==◌}
-use Rattle.std.specs.List.{AllByRecursion as All}
+use Rattle.std.specs.List.{AllByRecursion}
 use Rattle.traces.specs.Entries.{Run, SpanRow, LinkRow, EventRow, Typed, Tables}
 use Rattle.traces.specs.Traces.{Held, ArrayValue, integer, AnyValue, single, array, Link, Event, Span, Trace}
 
@@ -71,8 +71,8 @@ pub record SpanWithin (t : Tables) (r : SpanRow) : Type 0 where
   pub span_events : Within t.events r.span_events
 
 pub record Closed (t : Tables) : Type 0 where
-  pub traces : All (Within t.spans) t.traces
-  pub spans : All (SpanWithin t) t.spans
-  pub links : All (λ r. Within t.texts r.attributes) t.links
-  pub events : All (λ r. Within t.attributes r.attributes) t.events
-  pub attributes : All (λ x. Within t.values x.value.values) t.attributes
+  pub traces : AllByRecursion (Within t.spans) t.traces
+  pub spans : AllByRecursion (SpanWithin t) t.spans
+  pub links : AllByRecursion (λ r. Within t.texts r.attributes) t.links
+  pub events : AllByRecursion (λ r. Within t.attributes r.attributes) t.events
+  pub attributes : AllByRecursion (λ x. Within t.values x.value.values) t.attributes

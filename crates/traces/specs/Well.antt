@@ -1,6 +1,6 @@
 -- Well-formed traces: texts are UTF-8, numbers are in range, attribute keys differ. Assumes nothing.
 use Rattle.std.specs.Prelude.{◌≡◌, ℕ, ◌^◌, ◌<◌, true, false, List, [], ◌∷◌, length, ℤ, pos, negsuc}
-use Rattle.std.specs.List.{AllByRecursion as All}
+use Rattle.std.specs.List.{AllByRecursion}
 use Rattle.std.specs.Str.{bytes_eq}
 use Rattle.msgpack.specs.Text.{utf8}
 use Rattle.traces.specs.Traces.{Held, ArrayValue, string, boolean, integer, double, AnyValue, single, array, Link, Event, Span, Trace}
@@ -39,7 +39,7 @@ pub record BytePart (x : Held (List ℕ)) : Type 0 where
 -- no two keys are the same
 abbrev pub Apart : {V : Type 0} → List (Held V) → Type 0
 Apart [] = Unit {0}
-Apart (x ∷ xs) = All (λ y. bytes_eq x.key y.key ≡ false) xs × Apart xs
+Apart (x ∷ xs) = AllByRecursion (λ y. bytes_eq x.key y.key ≡ false) xs × Apart xs
 
 -- attributes
 
@@ -58,11 +58,11 @@ Value (double b) = b < 2 ^ 64
 -- each of the kind of the first
 abbrev pub Alike : List ArrayValue → Type 0
 Alike [] = Unit {0}
-Alike (v ∷ vs) = All (λ w. kind_of w ≡ kind_of v) vs
+Alike (v ∷ vs) = AllByRecursion (λ w. kind_of w ≡ kind_of v) vs
 
 abbrev pub Any : AnyValue → Type 0
 Any (single v) = Value v
-Any (array vs) = Few vs × All Value vs × Alike vs
+Any (array vs) = Few vs × AllByRecursion Value vs × Alike vs
 
 pub record Attribute (x : Held AnyValue) : Type 0 where
   pub key : Text x.key
@@ -74,7 +74,7 @@ pub record WellLink (l : Link) : Type 0 where
   pub trace_id : l.trace_id < 2 ^ 64
   pub trace_id_high : l.trace_id_high < 2 ^ 64
   pub span_id : l.span_id < 2 ^ 64
-  pub attributes : All TextPair l.attributes
+  pub attributes : AllByRecursion TextPair l.attributes
   pub few : Few l.attributes
   pub apart : Apart l.attributes
   pub tracestate : Text l.tracestate
@@ -83,7 +83,7 @@ pub record WellLink (l : Link) : Type 0 where
 pub record WellEvent (e : Event) : Type 0 where
   pub time_unix_nano : e.time_unix_nano < 2 ^ 64
   pub name : Text e.name
-  pub attributes : All Attribute e.attributes
+  pub attributes : AllByRecursion Attribute e.attributes
   pub few : Few e.attributes
   pub apart : Apart e.attributes
 
@@ -98,21 +98,21 @@ pub record WellSpan (s : Span) : Type 0 where
   pub start : Signed64 s.start
   pub duration : Signed64 s.duration
   pub error : Signed32 s.error
-  pub meta : All TextPair s.meta
+  pub meta : AllByRecursion TextPair s.meta
   pub few_meta : Few s.meta
-  pub metrics : All Metric s.metrics
+  pub metrics : AllByRecursion Metric s.metrics
   pub few_metrics : Few s.metrics
-  pub meta_struct : All BytePart s.meta_struct
+  pub meta_struct : AllByRecursion BytePart s.meta_struct
   pub few_meta_struct : Few s.meta_struct
-  pub span_links : All WellLink s.span_links
+  pub span_links : AllByRecursion WellLink s.span_links
   pub few_links : Few s.span_links
-  pub span_events : All WellEvent s.span_events
+  pub span_events : AllByRecursion WellEvent s.span_events
   pub few_events : Few s.span_events
 
 pub record WellTrace (t : Trace) : Type 0 where
-  pub spans : All WellSpan t
+  pub spans : AllByRecursion WellSpan t
   pub few : Few t
 
 pub record WellFormed (ts : List Trace) : Type 0 where
-  pub traces : All WellTrace ts
+  pub traces : AllByRecursion WellTrace ts
   pub few : Few ts
