@@ -2,19 +2,25 @@
 use Rattle.std.proofs.Common.{◌≡◌, ℕ, zero, suc, ◌-◌, ◌<◌, Bool, true, false, cond, eqb, List, ◌∷◌, Some, None, Ok, Err, Option, Result, refl, ap, ◌∙◌, arith}
 use Rattle.items.specs.declared.fault.DecodeError.{DecodeError}
 use Rattle.items.specs.declared.fault.ItemFault.{ItemFault}
-use Rattle.items.specs.Reads.{Outcome, got, fault, then, raised, times, fold, with, nothing}
+use Rattle.items.specs.Reads.{Outcome, got, fault, then, raised, times, fold, with, nothing, Takes}
 use Rattle.items.proofs.Turns.{into_answered}
 use Rattle.faults.specs.declared.ArrayValueFault.{ArrayValueFault}
 use Rattle.faults.specs.Faults.{in_array_value}
 use Rattle.trees.specs.Records.{fields_of, an_element_field, an_element, elements, into, ruled, verdict, alike, also, element_type}
-use Rattle.trees.specs.Steps.{On, later, or_zero, given_in, valued_in, given_by, valued_by, tell_element_field, tell_element}
-use Rattle.trees.specs.Tree.{ElementField, given, value, Element, element, AttributeField, plain, array}
+use Rattle.trees.specs.Steps.{On, type_code, later, or_zero, given_in, valued_in, given_by, valued_by, tell_element_field, tell_element}
+use Rattle.trees.specs.Tree.{type_number, Single, string, truth, whole, double, ElementField, given, value, Element, element, AttributeField, plain, array}
 use Rattle.attributes.specs.declared.judge.Field.{Field}
-use Rattle.attributes.specs.Fields.{given_of, valued_of, element_field, attribute_field}
+use Rattle.attributes.specs.Fields.{given_of, valued_of, type_of, element_field, attribute_field}
+
+type_said : (v : Single) → type_number v ≡ type_code (type_of v)
+type_said (string p) = refl
+type_said (truth b) = refl
+type_said (whole z) = refl
+type_said (double b) = refl
 
 pub valued_told : (f : ElementField) → valued_in f ≡ valued_of (element_field f)
 valued_told (given n) = refl
-valued_told (value v) = refl
+valued_told (value v) = ap Some (type_said v)
 
 pub given_told : (f : ElementField) → given_in f ≡ given_of (element_field f)
 given_told (given n) = refl
@@ -106,3 +112,8 @@ module _ {M : Type 0} (act : M → On → M) (bytes : List ℕ) (n at : ℕ) (x 
 
   pub elements_cut : {e : ArrayValueFault} → times (n - 1) (an_element (Some (element_type x)) bytes) at₁ ≡ fault e → elements n bytes at ≡ fault e
   elements_cut q = split ∙ ap (λ o. into (λ xs. x ∷ xs) o) q
+
+  -- the same of whatever came of the others
+  pub elements_taken : (m : M) {m₁ : M} (m₂ : M) (at₂ : ℕ) (r : Result (Unit {0}) ArrayValueFault) → tell_element act m x ≡ m₁ → Takes (fold (tell_element act)) nothing m₁ m₂ r at₂ (times (n - 1) (an_element (Some (element_type x)) bytes) at₁) → Takes (fold (tell_element act)) nothing m m₂ r at₂ (elements n bytes at)
+  elements_taken m m₂ at₂ (Ok u) s t = elements_done m s t
+  elements_taken m m₂ at₂ (Err e) s t = elements_cut t

@@ -1,22 +1,36 @@
 -- The fields of attributes and elements, as they are judged. Assumes nothing.
-use Rattle.std.specs.Prelude.{ℕ, Some, None, Option}
-use Rattle.trees.specs.Tree.{type_number, ElementField, given, value, AttributeField, plain, array}
+use Rattle.std.specs.Prelude.{ℕ, Some, None, Ok, Err, Option, Result}
+use Rattle.trees.specs.declared.step.ValueType.{ValueType}
+use Rattle.trees.specs.declared.step.ValueType.TheVariants as value_type
+use Rattle.trees.specs.Steps.{type_code}
+use Rattle.trees.specs.Tree.{Single, string, truth, whole, double, ElementField, given, value, AttributeField, plain, array}
 use Rattle.attributes.specs.declared.judge.Field.{Field}
 use Rattle.attributes.specs.declared.judge.Field.TheVariants.{Given, Valued}
 
 abbrev pub given_of : Field → Option ℕ
 given_of (Given n) = Some n
-given_of (Valued n) = None
+given_of (Valued t) = None
 
 abbrev pub valued_of : Field → Option ℕ
 valued_of (Given n) = None
-valued_of (Valued n) = Some n
+valued_of (Valued t) = Some (type_code t)
+
+-- an answer that is a type, by its number
+abbrev pub coded : {E : Type 0} → Result ValueType E → Result ℕ E
+coded (Ok t) = Ok (type_code t)
+coded (Err e) = Err e
+
+abbrev pub type_of : Single → ValueType
+type_of (string p) = value_type.String
+type_of (truth b) = value_type.Boolean
+type_of (whole z) = value_type.Integer
+type_of (double b) = value_type.Double
 
 -- what is kept of a field for the judgement
 abbrev pub element_field : ElementField → Field
 element_field (given n) = Given n
-element_field (value v) = Valued (type_number v)
+element_field (value v) = Valued (type_of v)
 
 abbrev pub attribute_field : AttributeField → Field
 attribute_field (plain f) = element_field f
-attribute_field (array es) = Valued 4
+attribute_field (array es) = Valued value_type.Array

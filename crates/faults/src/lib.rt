@@ -1,16 +1,17 @@
 // Faults: an item's inside its record's, and that inside the payload's.
+// Each `From` is written out: it says what it gives, which a derived one does not, and a fault passes by it to its record and to the payload.
 #![tactic(auto)]
 
 ghost use Rattle.std.specs.Prelude.{◌≡◌};
 ghost use Rattle.faults.specs.declared.AttributeFault.TheVariants.{Own as OwnAttribute, ArrayValue as InArrayValue};
 ghost use Rattle.faults.specs.declared.EventFault.TheVariants.{Own as OwnEvent, Attribute as InAttribute};
 ghost use Rattle.faults.specs.declared.SpanFault.TheVariants.{Own as OwnSpan, Link as InLink, Event as InEvent};
-ghost use Rattle.faults.specs.Faults.{record_number, in_array_value, in_link, in_dictionary, in_payload, in_span};
+ghost use Rattle.faults.specs.Faults.{record_number, in_array_value, in_link, as_dictionary, in_dictionary, in_payload, in_span};
 
 use items::fault::{DecodeError, ItemFault};
 
 // The innermost record that a fault happened in. Its numbers are 0 to 6, in this order.
-#[derive(Clone, Copy)]
+#[derive(Clone, Copy, Debug, PartialEq, Eq)]
 pub enum Record {
     Payload,
     Dictionary,
@@ -26,20 +27,13 @@ impl Record {
     pub fn number(self) -> u8
         ensures { result ≡ record_number self }
     {
-        match self {
-            Record::Payload => 0,
-            Record::Dictionary => 1,
-            Record::Span => 2,
-            Record::Link => 3,
-            Record::Event => 4,
-            Record::Attribute => 5,
-            Record::ArrayValue => 6,
-        }
+        self as u8
     }
 }
 
 // A fault in an element of an array value.
-#[derive(Clone, Copy)]
+// This, `LinkFault` and `DictionaryFault` are no one generic struct: that would need a marker type for each record, and is no plainer.
+#[derive(Clone, Copy, Debug, PartialEq, Eq)]
 pub struct ArrayValueFault(pub ItemFault);
 
 impl From<ItemFault> for ArrayValueFault {
@@ -50,7 +44,7 @@ impl From<ItemFault> for ArrayValueFault {
     }
 }
 
-#[derive(Clone, Copy)]
+#[derive(Clone, Copy, Debug, PartialEq, Eq)]
 pub enum AttributeFault {
     Own(ItemFault),
     ArrayValue(ArrayValueFault),
@@ -72,7 +66,7 @@ impl From<ArrayValueFault> for AttributeFault {
     }
 }
 
-#[derive(Clone, Copy)]
+#[derive(Clone, Copy, Debug, PartialEq, Eq)]
 pub enum EventFault {
     Own(ItemFault),
     Attribute(AttributeFault),
@@ -95,7 +89,7 @@ impl From<AttributeFault> for EventFault {
 }
 
 // A fault in a link.
-#[derive(Clone, Copy)]
+#[derive(Clone, Copy, Debug, PartialEq, Eq)]
 pub struct LinkFault(pub ItemFault);
 
 impl From<ItemFault> for LinkFault {
@@ -106,7 +100,7 @@ impl From<ItemFault> for LinkFault {
     }
 }
 
-#[derive(Clone, Copy)]
+#[derive(Clone, Copy, Debug, PartialEq, Eq)]
 pub enum SpanFault {
     Own(ItemFault),
     Link(LinkFault),
@@ -138,11 +132,11 @@ impl From<EventFault> for SpanFault {
 }
 
 // A fault in a dictionary.
-#[derive(Clone, Copy)]
+#[derive(Clone, Copy, Debug, PartialEq, Eq)]
 pub struct DictionaryFault(pub ItemFault);
 
 impl From<ItemFault> for DictionaryFault {
-    ghost from_gives = { λ e r. r ≡ record { 0 = e } };
+    ghost from_gives = { λ e r. r ≡ as_dictionary e };
 
     fn from(e: ItemFault) -> DictionaryFault {
         DictionaryFault(e)
@@ -150,7 +144,7 @@ impl From<ItemFault> for DictionaryFault {
 }
 
 // An item's fault with the record that it happened in.
-#[derive(Clone, Copy)]
+#[derive(Clone, Copy, Debug, PartialEq, Eq)]
 pub struct RecordFault {
     pub record: Record,
     pub item: ItemFault,
@@ -183,35 +177,23 @@ impl From<SpanFault> for RecordFault {
     ghost from_gives = { λ e r. r ≡ in_span e };
 
     fn from(e: SpanFault) -> RecordFault {
-        match e {
-            SpanFault::Own(item) => RecordFault {
-                record: Record::Span,
-                item,
-            },
-            SpanFault::Link(LinkFault(item)) => RecordFault {
-                record: Record::Link,
-                item,
-            },
-            SpanFault::Event(EventFault::Own(item)) => RecordFault {
-                record: Record::Event,
-                item,
-            },
-            SpanFault::Event(EventFault::Attribute(AttributeFault::Own(item))) => RecordFault {
-                record: Record::Attribute,
-                item,
-            },
+        let (record, item) = match e {
+            SpanFault::Own(item) => (Record::Span, item),
+            SpanFault::Link(LinkFault(item)) => (Record::Link, item),
+            SpanFault::Event(EventFault::Own(item)) => (Record::Event, item),
+            SpanFault::Event(EventFault::Attribute(AttributeFault::Own(item))) => {
+                (Record::Attribute, item)
+            }
             SpanFault::Event(
                 EventFault::Attribute(AttributeFault::ArrayValue(ArrayValueFault(item))),
-            ) => RecordFault {
-                record: Record::ArrayValue,
-                item,
-            },
-        }
+            ) => (Record::ArrayValue, item),
+        };
+        RecordFault { record, item }
     }
 }
 
 // A record's fault, with the whole traces read before it, and the whole spans before it in its trace.
-#[derive(Clone, Copy)]
+#[derive(Clone, Copy, Debug, PartialEq, Eq)]
 pub struct PayloadFault {
     pub fault: RecordFault,
     pub trace: u64,

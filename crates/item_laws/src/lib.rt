@@ -5,33 +5,25 @@ ghost use Rattle.item_laws.specs.Laws.{ReadsEncodings, EncodingsRead, WrittenRea
 ghost use Rattle.item_laws.specs.Vectors.{WrittenExamples, IntegerExamples, DoubleExamples, TextExamples};
 
 // What a reading of an item accepts is an encoding of its value, and every encoding of a fitting value is accepted.
-pub fn readings_are_encodings() -> u8
+pub fn readings_are_encodings()
     ensures sound { ReadsEncodings }
     ensures complete { EncodingsRead }
-{
-    0
-}
+{}
 
 // What is written for a fitting value is read as that value, and its bytes are consumed, no more and no fewer.
-pub fn written_items_are_read_back() -> u8
+pub fn written_items_are_read_back()
     ensures { WrittenReadBack }
-{
-    0
-}
+{}
 
 // The cause of each fault, and its place, which is the item's.
-pub fn item_faults_are_told() -> u8
+pub fn item_faults_are_told()
     ensures { FaultsTold }
-{
-    0
-}
+{}
 
 // Single items, written and read as computed.
-pub fn item_examples_stand() -> u8
+pub fn item_examples_stand()
     ensures written { WrittenExamples }
     ensures integers { IntegerExamples }
     ensures doubles { DoubleExamples }
     ensures texts { TextExamples }
-{
-    0
-}
+{}

@@ -116,3 +116,8 @@ into_answered (fault d) h f g v k e = let z : ◌≡◌ {A = ℕ} 0 1 = cc in ab
 pub raised_got : {E F A B : Type 0} (f : E → F) (o : Outcome E A) (h : A → B) {y : B} {at : ℕ} → then o (λ x next. got (h x) next) ≡ got y at → then (raised f o) (λ x next. got (h x) next) ≡ got y at
 raised_got f (got x next) h {y} {at} e = let a : h x ≡ y = cc in let b : next ≡ at = cc in ap (λ j. got j next) a ∙ ap (λ j. got y j) b
 raised_got f (fault d) h e = let z : ◌≡◌ {A = ℕ} 0 1 = cc in absurd (omega arith)
+
+-- the same with an answer that says nothing
+pub unanswered : {E A M V : Type 0} (o : Outcome E A) (f : A → M) (g : A → V) {m : M} {v : V} {at : ℕ} → then o (λ x next. got (with (f x) (g x)) next) ≡ got (with m v) at → then o (λ x next. got (with (f x) (nothing x)) next) ≡ got (with m tt) at
+unanswered (got x next) f g {m} {v} {at} e = let a : f x ≡ m = cc in let b : next ≡ at = cc in ap (λ k. got (with k tt) next) a ∙ ap (λ k. got (with m tt) k) b
+unanswered (fault d) f g e = let z : ◌≡◌ {A = ℕ} 0 1 = cc in absurd (omega arith)

@@ -2,14 +2,14 @@
 ghost use Rattle.std.specs.Prelude.{◌≡◌};
 ghost use Rattle.items.specs.Faults.{cause_number};
 
-// The cause of a fault. Its numbers are 1 to 5, in this order.
-#[derive(Clone, Copy)]
+// The cause of a fault, by its number.
+#[derive(Clone, Copy, Debug, PartialEq, Eq)]
 pub enum DecodeError {
-    InvalidConversion,
-    InvalidType,
-    InvalidFormat,
-    IOError,
-    Utf8Error,
+    InvalidConversion = 1,
+    InvalidType = 2,
+    InvalidFormat = 3,
+    IOError = 4,
+    Utf8Error = 5,
 }
 
 impl DecodeError {
@@ -17,18 +17,12 @@ impl DecodeError {
     pub fn number(self) -> u8
         ensures { result ≡ cause_number self }
     {
-        match self {
-            DecodeError::InvalidConversion => 1,
-            DecodeError::InvalidType => 2,
-            DecodeError::InvalidFormat => 3,
-            DecodeError::IOError => 4,
-            DecodeError::Utf8Error => 5,
-        }
+        self as u8
     }
 }
 
 // An item's fault: its cause, and the place of the item's first byte in the window.
-#[derive(Clone, Copy)]
+#[derive(Clone, Copy, Debug, PartialEq, Eq)]
 pub struct ItemFault {
     pub cause: DecodeError,
     pub place: usize,

@@ -1,35 +1,16 @@
 // What the first byte of an item announces.
 ghost use Rattle.std.specs.Prelude.{◌≡◌};
-ghost use Rattle.items.specs.Items.{head_of, same_kind, kind_number};
+ghost use Rattle.items.specs.Items.{head_of};
 
 use msgpack::marker::{Marker, Width};
 
 // What a length is the length of.
-#[derive(Clone, Copy)]
+#[derive(Clone, Copy, Debug, PartialEq, Eq)]
 pub enum Kind {
     Text,
     Bytes,
     Array,
     Map,
-}
-
-impl Kind {
-    fn number(self) -> u8
-        ensures { result ≡ kind_number self }
-    {
-        match self {
-            Kind::Text => 0,
-            Kind::Bytes => 1,
-            Kind::Array => 2,
-            Kind::Map => 3,
-        }
-    }
-
-    pub(crate) fn is(self, other: Kind) -> bool
-        ensures { result ≡ same_kind self other }
-    {
-        self.number() == other.number()
-    }
 }
 
 #[derive(Clone, Copy)]

@@ -12,10 +12,8 @@ pub trait IntegerRange: Sized {
     // The integer that a value is.
     ghost worth: { Self → ℤ };
 
-    fn from_unsigned(n: u64) -> Option<Self>
-        ensures { option_map worth result ≡ in_range low high (pos n) };
-
-    fn from_signed(n: i64) -> Option<Self>
+    // The number as one of this kind, where it is in the range.
+    fn from_number(n: i128) -> Option<Self>
         ensures { option_map worth result ≡ in_range low high n };
 }
 
@@ -26,16 +24,8 @@ impl IntegerRange for u8 {
 
     ghost worth = { pos };
 
-    fn from_unsigned(n: u64) -> Option<u8> {
-        if n <= 255 { Some(n as u8) } else { None }
-    }
-
-    fn from_signed(n: i64) -> Option<u8> {
-        if n >= 0 && n <= 255 {
-            Some(n as u8)
-        } else {
-            None
-        }
+    fn from_number(n: i128) -> Option<u8> {
+        u8::try_from(n).ok()
     }
 }
 
@@ -46,20 +36,8 @@ impl IntegerRange for u32 {
 
     ghost worth = { pos };
 
-    fn from_unsigned(n: u64) -> Option<u32> {
-        if n <= 4_294_967_295 {
-            Some(n as u32)
-        } else {
-            None
-        }
-    }
-
-    fn from_signed(n: i64) -> Option<u32> {
-        if n >= 0 && n <= 4_294_967_295 {
-            Some(n as u32)
-        } else {
-            None
-        }
+    fn from_number(n: i128) -> Option<u32> {
+        u32::try_from(n).ok()
     }
 }
 
@@ -70,12 +48,8 @@ impl IntegerRange for u64 {
 
     ghost worth = { pos };
 
-    fn from_unsigned(n: u64) -> Option<u64> {
-        Some(n)
-    }
-
-    fn from_signed(n: i64) -> Option<u64> {
-        if n >= 0 { Some(n as u64) } else { None }
+    fn from_number(n: i128) -> Option<u64> {
+        u64::try_from(n).ok()
     }
 }
 
@@ -86,20 +60,8 @@ impl IntegerRange for i32 {
 
     ghost worth = { λ z. z };
 
-    fn from_unsigned(n: u64) -> Option<i32> {
-        if n <= 2_147_483_647 {
-            Some(n as i32)
-        } else {
-            None
-        }
-    }
-
-    fn from_signed(n: i64) -> Option<i32> {
-        if n >= -2_147_483_648 && n <= 2_147_483_647 {
-            Some(n as i32)
-        } else {
-            None
-        }
+    fn from_number(n: i128) -> Option<i32> {
+        i32::try_from(n).ok()
     }
 }
 
@@ -110,15 +72,7 @@ impl IntegerRange for i64 {
 
     ghost worth = { λ z. z };
 
-    fn from_unsigned(n: u64) -> Option<i64> {
-        if n <= 9_223_372_036_854_775_807 {
-            Some(n as i64)
-        } else {
-            None
-        }
-    }
-
-    fn from_signed(n: i64) -> Option<i64> {
-        Some(n)
+    fn from_number(n: i128) -> Option<i64> {
+        i64::try_from(n).ok()
     }
 }

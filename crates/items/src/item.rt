@@ -1,8 +1,8 @@
 // Items of the kinds that a map can hold, each by one call.
-ghost use Rattle.std.specs.Prelude.{◌≡◌, pos};
+ghost use Rattle.std.specs.Prelude.{pos};
 ghost use Rattle.items.specs.Items.{an_index};
 ghost use Rattle.items.specs.Parts.{shown, an_item};
-ghost use Rattle.items.specs.Reads.{Gives};
+ghost use Rattle.items.specs.Buffers.{Reads};
 
 use crate::buffer::Buffer;
 use crate::fault::{DecodeError, ItemFault};
@@ -32,8 +32,7 @@ pub enum Item<'a> {
 impl<'a> Buffer<'a> {
     // Reads a number of 32 bits below `end`.
     pub fn read_index(&mut self, end: u64) -> Result<u32, ItemFault>
-        ensures gives { Gives pos result self.old.pos self.new.pos (an_index end self.old.window.now self.old.pos) }
-        ensures window { self.new.window ≡ self.old.window }
+        ensures { Reads pos result self.old self.new (an_index end) }
     {
         let place = self.pos;
         let index: u32 = self.read_integer()?;
@@ -46,8 +45,7 @@ impl<'a> Buffer<'a> {
 
     // Reads an item of the kind asked.
     pub fn read_item(&mut self, kind: ItemKind) -> Result<Item<'a>, ItemFault>
-        ensures gives { Gives shown result self.old.pos self.new.pos (an_item kind self.old.window.now self.old.pos) }
-        ensures window { self.new.window ≡ self.old.window }
+        ensures { Reads shown result self.old self.new (an_item kind) }
     {
         match kind {
             ItemKind::Text => Ok(Item::Text(self.read_text()?)),

@@ -1,6 +1,7 @@
 // Single MessagePack items, read from a window of bytes.
 #![tactic(auto)]
 
+mod behind;
 pub mod buffer;
 pub mod fault;
 pub mod head;

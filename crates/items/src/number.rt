@@ -1,11 +1,11 @@
 // Numbers: every integer and float form.
-ghost use Rattle.std.specs.Prelude.{◌≡◌, ◌+◌, ◌^◌, ◌<◌, ◌≤◌, length, IfOk};
+ghost use Rattle.std.specs.Prelude.{◌≡◌, ◌^◌, ◌<◌};
 ghost use Rattle.std.specs.Option.{option_map};
 ghost use Rattle.msgpack.specs.Numbers.{wide, twos};
-ghost use Rattle.items.specs.declared.fault.DecodeError.TheVariants.{IOError};
-ghost use Rattle.items.specs.Items.{a_number, an_integer, a_double, integer_of, double_by, double_of, by_content};
-ghost use Rattle.items.specs.Reads.{Told, Gives};
+ghost use Rattle.items.specs.Items.{a_number, an_integer, a_double, integer_of, double_by, double_of};
+ghost use Rattle.items.specs.Buffers.{Reads, Sees};
 
+use crate::behind::Behind;
 use crate::buffer::Buffer;
 use crate::fault::{DecodeError, ItemFault};
 use crate::head::Head;
@@ -38,8 +38,8 @@ impl Number {
         ensures { option_map T.IntegerRange.worth result ≡ integer_of T.IntegerRange.low T.IntegerRange.high self }
     {
         match self {
-            Number::Unsigned(n) => T::from_unsigned(n),
-            Number::Signed(n) => T::from_signed(n),
+            Number::Unsigned(n) => T::from_number(i128::from(n)),
+            Number::Signed(n) => T::from_number(i128::from(n)),
             Number::Float(_) => None,
         }
     }
@@ -64,107 +64,68 @@ fn float(width: Width, bits: u64) -> u64
     ensures { result ≡ double_of width bits }
 {
     match width {
-        Width::One => single_bits(bits as u32),
-        Width::Two => single_bits(bits as u32),
-        Width::Four => single_bits(bits as u32),
+        Width::One | Width::Two | Width::Four => single_bits(bits as u32),
         Width::Eight => bits,
     }
 }
 
-// A number, and the place behind it.
-#[derive(Clone, Copy)]
-struct Numeral {
-    number: Number,
-    next: usize,
-}
-
 impl<'a> Buffer<'a> {
-    // The number in so many bytes behind the next item's first.
-    fn number_behind(&self, width: Width) -> Result<u64, ItemFault>
-        ensures told { Told (λ n. n) (λ _. self.now.pos + 1 + wide width) result (by_content IOError width (λ n. n) self.now.window.now self.now.pos) }
-        ensures bound { IfOk result (λ n. (n < 256 ^ wide width) × (self.now.pos + 1 + wide width ≤ length self.now.window.now)) }
-    {
-        match self.content(width) {
-            None => Err(self.fault(DecodeError::IOError)),
-            Some(bits) => Ok(bits),
-        }
-    }
-
     // The number that the next item is, which is not passed over.
-    fn next_number(&self) -> Result<Numeral, ItemFault>
-        ensures told { Told (λ n. n.number) (λ n. n.next) result (a_number self.now.window.now self.now.pos) }
-        ensures bound { IfOk result (λ n. n.next ≤ length self.now.window.now) }
+    fn next_number(&self) -> Result<Behind<Number>, ItemFault>
+        ensures { Sees (λ n. n) result self.now a_number }
     {
-        let Some(head) = self.head() else {
-            return Err(self.fault(DecodeError::InvalidFormat));
-        };
-        let after = self.pos + 1;
+        let head = self.head().ok_or(self.fault(DecodeError::InvalidFormat))?;
+        let next = self.pos + 1;
         match head {
-            Head::Positive(b) => Ok(Numeral {
-                number: Number::Unsigned(u64::from(b)),
-                next: after,
+            Head::Positive(b) => Ok(Behind {
+                value: Number::Unsigned(u64::from(b)),
+                next,
             }),
-            Head::Negative(b) => Ok(Numeral {
-                number: Number::Signed(i64::from(b.cast_signed())),
-                next: after,
+            Head::Negative(b) => Ok(Behind {
+                value: Number::Signed(i64::from(b.cast_signed())),
+                next,
             }),
             Head::Unsigned(width) => {
-                let bits = self.number_behind(width)?;
-                Ok(Numeral {
-                    number: Number::Unsigned(bits),
-                    next: after + width.bytes(),
-                })
+                let bits = self.content(width, DecodeError::IOError)?;
+                Ok(bits.map(|n| Number::Unsigned(n)))
             }
             Head::Signed(width) => {
-                let bits = self.number_behind(width)?;
-                Ok(Numeral {
-                    number: Number::Signed(signed(width, bits)),
-                    next: after + width.bytes(),
-                })
+                let bits = self.content(width, DecodeError::IOError)?;
+                Ok(bits.map(|n| Number::Signed(signed(width, n))))
             }
             Head::Float(width) => {
-                let bits = self.number_behind(width)?;
-                Ok(Numeral {
-                    number: Number::Float(float(width, bits)),
-                    next: after + width.bytes(),
-                })
+                let bits = self.content(width, DecodeError::IOError)?;
+                Ok(bits.map(|n| Number::Float(float(width, n))))
             }
-            Head::Null
-            | Head::Truth(_)
-            | Head::Length(_, _)
-            | Head::LengthBehind(_, _)
-            | Head::Other => Err(self.fault(DecodeError::InvalidType)),
+            _ => Err(self.fault(DecodeError::InvalidType)),
         }
     }
 
     pub fn read_number(&mut self) -> Result<Number, ItemFault>
-        ensures gives { Gives (λ n. n) result self.old.pos self.new.pos (a_number self.old.window.now self.old.pos) }
-        ensures window { self.new.window ≡ self.old.window }
+        ensures { Reads (λ n. n) result self.old self.new a_number }
     {
-        let numeral = self.next_number()?;
-        self.pos = numeral.next;
-        Ok(numeral.number)
+        let number = self.next_number()?;
+        Ok(self.pass(number))
     }
 
     // Reads a number as an integer of the kind asked.
     pub fn read_integer<T: IntegerRange>(&mut self) -> Result<T, ItemFault>
-        ensures gives { Gives T.IntegerRange.worth result self.old.pos self.new.pos (an_integer T.IntegerRange.low T.IntegerRange.high self.old.window.now self.old.pos) }
-        ensures window { self.new.window ≡ self.old.window }
+        ensures { Reads T.IntegerRange.worth result self.old self.new (an_integer T.IntegerRange.low T.IntegerRange.high) }
     {
-        let numeral = self.next_number()?;
-        match numeral.number.integer() {
-            None => Err(self.fault(DecodeError::InvalidConversion)),
-            Some(n) => {
-                self.pos = numeral.next;
-                Ok(n)
-            }
-        }
+        let number = self.next_number()?;
+        let value = number
+            .value
+            .integer()
+            .ok_or(self.fault(DecodeError::InvalidConversion))?;
+        Ok(self.pass(Behind {
+            value,
+            next: number.next,
+        }))
     }
 
     // Reads a number as a double, by its 64 bits.
     pub fn read_double(&mut self) -> Result<u64, ItemFault>
-        ensures gives { Gives (λ n. n) result self.old.pos self.new.pos (a_double self.old.window.now self.old.pos) }
-        ensures window { self.new.window ≡ self.old.window }
+        ensures { Reads (λ n. n) result self.old self.new a_double }
     {
         let number = self.read_number()?;
         Ok(number.double())

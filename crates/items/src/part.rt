@@ -1,9 +1,9 @@
 // Texts, byte parts and truth values.
-ghost use Rattle.std.specs.Prelude.{◌≡◌, ◌+◌, ◌≤◌, length as long, IfOk};
 ghost use Rattle.items.specs.Items.{a_piece, a_text, a_binary, a_truth};
 ghost use Rattle.items.specs.Parts.{piece_of};
-ghost use Rattle.items.specs.Reads.{Told, Gives};
+ghost use Rattle.items.specs.Buffers.{Reads, Sees};
 
+use crate::behind::Behind;
 use crate::buffer::Buffer;
 use crate::fault::{DecodeError, ItemFault};
 use crate::head::{Head, Kind};
@@ -27,71 +27,58 @@ impl<'a> Buffer<'a> {
         kind: Kind,
         causes: Causes,
         short: DecodeError,
-    ) -> Result<Part<'a>, ItemFault>
-        ensures told { Told piece_of (λ p. p.start + long p.bytes.now) result (a_piece kind causes short self.now.window.now self.now.pos) }
-        ensures bound { IfOk result (λ p. p.start + long p.bytes.now ≤ long self.now.window.now) }
+    ) -> Result<Behind<Part<'a>>, ItemFault>
+        ensures { Sees piece_of result self.now (a_piece kind causes short) }
     {
         let header = self.header(kind, causes)?;
         let window = self.window;
         let start = header.next;
-        let length = header.length as usize;
+        let length = header.value as usize;
         if length > window.len() - start {
             return Err(self.fault(short));
         }
-        Ok(Part {
-            bytes: &window[start..start + length],
-            place: self.pos,
-            start,
+        let next = start + length;
+        Ok(Behind {
+            value: Part {
+                bytes: &window[start..next],
+                place: self.pos,
+                start,
+            },
+            next,
         })
     }
 
     pub fn read_text(&mut self) -> Result<Part<'a>, ItemFault>
-        ensures gives { Gives piece_of result self.old.pos self.new.pos (a_text self.old.window.now self.old.pos) }
-        ensures window { self.new.window ≡ self.old.window }
+        ensures { Reads piece_of result self.old self.new a_text }
     {
         let part = self.next_part(Kind::Text, Causes::of_text(), DecodeError::IOError)?;
-        if !is_text(part.bytes) {
+        if !is_text(part.value.bytes) {
             return Err(self.fault(DecodeError::Utf8Error));
         }
-        self.pos = part.start + part.bytes.len();
-        Ok(part)
+        Ok(self.pass(part))
     }
 
     pub fn read_bytes(&mut self) -> Result<Part<'a>, ItemFault>
-        ensures gives { Gives piece_of result self.old.pos self.new.pos (a_binary self.old.window.now self.old.pos) }
-        ensures window { self.new.window ≡ self.old.window }
+        ensures { Reads piece_of result self.old self.new a_binary }
     {
         let part = self.next_part(
             Kind::Bytes,
             Causes::all(DecodeError::InvalidFormat),
             DecodeError::InvalidFormat,
         )?;
-        self.pos = part.start + part.bytes.len();
-        Ok(part)
+        Ok(self.pass(part))
     }
 
     // Reads a truth value; every failure has the cause given.
     pub fn read_boolean(&mut self, cause: DecodeError) -> Result<bool, ItemFault>
-        ensures gives { Gives (λ b. b) result self.old.pos self.new.pos (a_truth cause self.old.window.now self.old.pos) }
-        ensures window { self.new.window ≡ self.old.window }
+        ensures { Reads (λ b. b) result self.old self.new (a_truth cause) }
     {
-        let Some(head) = self.head() else {
-            return Err(self.fault(cause));
-        };
-        match head {
-            Head::Truth(b) => {
+        match self.head() {
+            Some(Head::Truth(b)) => {
                 self.pos += 1;
                 Ok(b)
             }
-            Head::Null
-            | Head::Positive(_)
-            | Head::Negative(_)
-            | Head::Unsigned(_)
-            | Head::Signed(_)
-            | Head::Float(_)
-            | Head::Length(_, _)
-            | Head::LengthBehind(_, _)
-            | Head::Other => Err(self.fault(cause)),
+            _ => Err(self.fault(cause)),
         }
     }
 }

@@ -3,23 +3,53 @@ use items::buffer::Buffer;
 use items::fault::{DecodeError, ItemFault};
 use items::head::Kind;
 use items::length::Causes;
+use items::part::Part;
 use std::fmt;
 
-// What a reading says.
+// What was read.
 #[derive(Clone, Copy)]
-pub enum Said {
+enum Said {
     Whole(i128),
     Bits(u64),
     // where a part begins, and its length
     Part(usize, usize),
-    Fault(ItemFault),
-    Unknown,
 }
 
-// What was said, and the place after it.
+impl fmt::Display for Said {
+    fn fmt<W: fmt::Write>(&self, f: &mut fmt::Formatter<W>) -> fmt::Result {
+        match self {
+            Said::Whole(n) => write!(f, "{n}"),
+            Said::Bits(n) => write!(f, "{n:x}"),
+            Said::Part(start, length) => write!(f, "from {start} length {length}"),
+        }
+    }
+}
+
+fn whole<T: Into<i128> + Drop>(n: T) -> Said {
+    Said::Whole(n.into())
+}
+
+fn part(read: Part<'_>) -> Said {
+    Said::Part(read.start, read.bytes.len())
+}
+
+// Why nothing was read.
+#[derive(Clone, Copy)]
+enum Unread {
+    Fault(ItemFault),
+    NoSuchKind,
+}
+
+impl From<ItemFault> for Unread {
+    fn from(fault: ItemFault) -> Unread {
+        Unread::Fault(fault)
+    }
+}
+
+// What a reading says, and the place after it.
 #[derive(Clone, Copy)]
 pub struct Answer {
-    said: Said,
+    said: Result<Said, Unread>,
     next: usize,
 }
 
@@ -27,93 +57,40 @@ impl fmt::Display for Answer {
     fn fmt<W: fmt::Write>(&self, f: &mut fmt::Formatter<W>) -> fmt::Result {
         let next = self.next;
         match self.said {
-            Said::Whole(n) => write!(f, "{n} next {next}"),
-            Said::Bits(n) => write!(f, "{n:x} next {next}"),
-            Said::Part(start, length) => write!(f, "from {start} length {length} next {next}"),
-            Said::Fault(fault) => {
-                let cause = fault.cause.number();
-                let place = fault.place;
+            Ok(said) => write!(f, "{said} next {next}"),
+            Err(Unread::Fault(ItemFault { cause, place })) => {
+                let cause = cause.number();
                 write!(f, "fault {cause} place {place} next {next}")
             }
-            Said::Unknown => write!(f, "no such kind"),
+            Err(Unread::NoSuchKind) => write!(f, "no such kind"),
         }
     }
 }
 
-fn whole<T: Into<i128> + Drop>(r: Result<T, ItemFault>) -> Said {
-    match r {
-        Ok(n) => Said::Whole(n.into()),
-        Err(fault) => Said::Fault(fault),
-    }
-}
-
-fn integer_of(buf: &mut Buffer<'_>, kind: &str) -> Said {
-    match kind {
-        "u8" => {
-            let r: Result<u8, ItemFault> = buf.read_integer();
-            whole(r)
-        }
-        "u32" => {
-            let r: Result<u32, ItemFault> = buf.read_integer();
-            whole(r)
-        }
-        "u64" => {
-            let r: Result<u64, ItemFault> = buf.read_integer();
-            whole(r)
-        }
-        "i32" => {
-            let r: Result<i32, ItemFault> = buf.read_integer();
-            whole(r)
-        }
-        "i64" => {
-            let r: Result<i64, ItemFault> = buf.read_integer();
-            whole(r)
-        }
-        _ => Said::Unknown,
-    }
-}
-
-fn length_of(buf: &mut Buffer<'_>, kind: Kind, causes: Causes) -> Said {
-    whole(buf.read_length(kind, causes))
-}
-
-fn part_of(buf: &mut Buffer<'_>, text: bool) -> Said {
-    let r = if text {
-        buf.read_text()
-    } else {
-        buf.read_bytes()
-    };
-    match r {
-        Ok(part) => Said::Part(part.start, part.bytes.len()),
-        Err(fault) => Said::Fault(fault),
-    }
-}
-
-fn said_of(buf: &mut Buffer<'_>, kind: &str) -> Said {
-    match kind {
-        "double" => match buf.read_double() {
-            Ok(bits) => Said::Bits(bits),
-            Err(fault) => Said::Fault(fault),
-        },
-        "text" => part_of(buf, true),
-        "bytes" => part_of(buf, false),
-        "array2" => length_of(buf, Kind::Array, Causes::all(DecodeError::InvalidType)),
-        "array3" => length_of(buf, Kind::Array, Causes::all(DecodeError::InvalidFormat)),
-        "map2" => length_of(buf, Kind::Map, Causes::all(DecodeError::InvalidType)),
-        "map3" => length_of(buf, Kind::Map, Causes::all(DecodeError::InvalidFormat)),
-        "values" => length_of(buf, Kind::Map, Causes::of_values()),
-        "truth" => match buf.read_boolean(DecodeError::InvalidType) {
-            Ok(b) => Said::Whole(i128::from(u8::from(b))),
-            Err(fault) => Said::Fault(fault),
-        },
-        "null" => Said::Whole(i128::from(u8::from(buf.handle_null_marker()))),
-        _ => integer_of(buf, kind),
-    }
+fn read_kind(buf: &mut Buffer<'_>, kind: &str) -> Result<Said, Unread> {
+    Ok(match kind {
+        "u8" => whole(buf.read_integer::<u8>()?),
+        "u32" => whole(buf.read_integer::<u32>()?),
+        "u64" => whole(buf.read_integer::<u64>()?),
+        "i32" => whole(buf.read_integer::<i32>()?),
+        "i64" => whole(buf.read_integer::<i64>()?),
+        "double" => Said::Bits(buf.read_double()?),
+        "text" => part(buf.read_text()?),
+        "bytes" => part(buf.read_bytes()?),
+        "array2" => whole(buf.read_length(Kind::Array, Causes::all(DecodeError::InvalidType))?),
+        "array3" => whole(buf.read_length(Kind::Array, Causes::all(DecodeError::InvalidFormat))?),
+        "map2" => whole(buf.read_length(Kind::Map, Causes::all(DecodeError::InvalidType))?),
+        "map3" => whole(buf.read_length(Kind::Map, Causes::all(DecodeError::InvalidFormat))?),
+        "values" => whole(buf.read_length(Kind::Map, Causes::of_values())?),
+        "truth" => whole(buf.read_boolean(DecodeError::InvalidType)?),
+        "null" => whole(buf.handle_null_marker()),
+        _ => return Err(Unread::NoSuchKind),
+    })
 }
 
 pub fn read_item(kind: &str, bytes: &[u8]) -> Answer {
     let mut buf = Buffer::new(bytes);
-    let said = said_of(&mut buf, kind);
+    let said = read_kind(&mut buf, kind);
     Answer {
         said,
         next: buf.place(),

@@ -1,5 +1,6 @@
 -- A keyed list, as the entries of a run of memory of which the first few are in use. Assumes nothing.
-use Rattle.std.specs.Prelude.{◌≡◌, ℕ, zero, suc, ◌+◌, Bool, cond, List, [], ◌∷◌, length, take, Some, None, Ok, Err, Option, Result, nat_lt, slice_set}
+use Rattle.std.specs.Prelude.{◌≡◌, ℕ, zero, suc, ◌+◌, Bool, cond, List, [], ◌∷◌, length, take, position, Some, None, Ok, Err, Option, Result, option_map, nat_lt, slice_set}
+use Rattle.std.specs.List.{find}
 use Rattle.keyed.specs.declared.list.Entry.{Entry}
 use Rattle.keyed.specs.declared.list.Shortage.{Shortage}
 
@@ -32,15 +33,13 @@ abbrev pub refusing : {K V : Type 0} → ℕ → List (Entry K V) → Put K V
 refusing len entries = record { answer = Err (record {}); memory = entries; used = len }
 
 module _ {K V : Type 0} (same : K → K → Bool) where
-  -- the place of the first entry with the key, the places counted from i
-  abbrev pub seek : K → List (Entry K V) → ℕ → Option ℕ
-  seek key [] i = None
-  seek key (x ∷ xs) i = cond (same x.key key) (Some i) (seek key xs (i + 1))
+  -- the place of the first entry with the key
+  abbrev pub seek : K → List (Entry K V) → Option ℕ
+  seek key xs = position (λ x. same x.key key) xs
 
   -- the value of the first entry with the key
   abbrev pub value_of : K → List (Entry K V) → Option V
-  value_of key [] = None
-  value_of key (x ∷ xs) = cond (same x.key key) (Some x.value) (value_of key xs)
+  value_of key xs = option_map (λ x. x.value) (find (λ x. same x.key key) xs)
 
   abbrev pub put_at : Option ℕ → K → V → ℕ → List (Entry K V) → Put K V
   put_at (Some i) key value len entries = replacing i value len entries
@@ -48,7 +47,7 @@ module _ {K V : Type 0} (same : K → K → Bool) where
 
   -- a known key gets the new value and keeps its place; a new one takes the first free entry; without one nothing changes
   abbrev pub putting : K → V → ℕ → List (Entry K V) → Put K V
-  putting key value len entries = put_at (seek key (take len entries) 0) key value len entries
+  putting key value len entries = put_at (seek key (take len entries)) key value len entries
 
   -- under the key stands the value now, and under every other key what stood there before
   abbrev pub Finds : K → V → List (Entry K V) → List (Entry K V) → Type 0

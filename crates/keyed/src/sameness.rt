@@ -1,28 +1,31 @@
 // When two keys are the same.
-ghost use Rattle.std.specs.Prelude.{◌≡◌, Bool, ◌==◌};
-ghost use Rattle.keyed.specs.Sameness.{Laws, equal_numbers};
+ghost use Rattle.std.specs.Prelude.{◌≡◌, Bool};
+ghost use Rattle.keyed.specs.Sameness.{Laws, equal_keys};
 
 // Sameness of keys of the kind K. An implementor holds what the keys are read against.
 pub trait Sameness<K> {
     ghost alike: { Self → K → K → Bool };
 
-    // Sameness is reflexive, symmetric and transitive.
-    ghost laws: { (s : Self) → Laws (alike s) };
-
     fn same(&self, a: K, b: K) -> bool
         ensures { result ≡ alike self.now a b };
+
+    // Sameness is reflexive, symmetric and transitive.
+    ghost laws: { (s : Self) → Laws (alike s) };
 }
 
-// Numbers of spans: equal numbers are the same.
-#[derive(Clone, Copy)]
-pub struct SpanNumbers;
+// Equal keys are the same.
+#[derive(Clone, Copy, Debug, Default, PartialEq, Eq)]
+pub struct Equality;
 
-impl Sameness<u64> for SpanNumbers {
-    ghost alike = { λ _ a b. (a == b) };
+// The name that it has for numbers of spans.
+pub use Equality as SpanNumbers;
 
-    ghost laws = { λ _. equal_numbers };
+impl<K: Copy + Eq> Sameness<K> for Equality {
+    ghost alike = { λ _. K.eq };
 
-    fn same(&self, a: u64, b: u64) -> bool {
+    fn same(&self, a: K, b: K) -> bool {
         a == b
     }
+
+    ghost laws = { λ _. equal_keys K.Eq.laws };
 }

@@ -1,70 +1,56 @@
 -- Steps of a search for a span number. Assumes nothing.
-use Rattle.std.proofs.Common.{◌≡◌, ℕ, zero, suc, ◌+◌, ◌-◌, ◌<◌, ◌≤◌, Bool, true, false, cond, eqb, List, [], ◌∷◌, ◌++◌, map, length, get_or, take, drop, Some, None, Option, sym, refl, ap, ◌∙◌, subst, arith, eqb-true}
-use borrow.Author.Tests.{eqb-false}
-use Rattle.std.proofs.lemmas.List.{drop_more, drop_all, length-map, get_or-map, map_more}
+use Rattle.std.proofs.Common.{◌≡◌, ℕ, ◌+◌, ◌<◌, ◌≤◌, Bool, true, false, cond, not, nat_eq, nat_lt, List, [], ◌∷◌, ◌++◌, map, length, get_or, take, drop, Some, None, Option, refl, sym, ap, ◌∙◌, subst, arith, append_assoc, length-append, eq-eqb, eqb-true}
+use Rattle.std.specs.List.{position_or_len, position_from}
+use Rattle.std.proofs.Math.Seq.{drop-append_seam}
+use Rattle.std.proofs.lemmas.Bool.Decides.{nat_tests}
+use Rattle.std.proofs.lemmas.List.{length-map, get_or-map, map_more}
+use Rattle.std.proofs.lemmas.List.Sums.{prefix_len_passes, prefix_len_stops}
 use Rattle.listing.specs.declared.row.SpanRow.{SpanRow}
 use Rattle.listing.specs.Parents.{first_with, IsFirst, NoneBelow, Parents}
 
--- one span more in front
-pub before : (id : ℕ) (spans : List SpanRow) (i : ℕ) (d : SpanRow) → 0 < i → i ≤ length spans
-    → first_with id (drop (i - 1) spans) (i - 1) ≡ cond (eqb (get_or spans (i - 1) d).span_id id) (Some (i - 1)) (first_with id (drop i spans) i)
-before id spans i d more within =
-    let less : i - 1 < length spans = omega arith in
-    let next : i - 1 + 1 ≡ i = omega arith in
-    ap (λ xs. first_with id xs (i - 1)) (drop_more spans (i - 1) d less) ∙ ap (λ n. cond (eqb (get_or spans (i - 1) d).span_id id) (Some (i - 1)) (first_with id (drop n spans) n)) next
+-- one element more behind a front
+module _ {X : Type 0} (xs rest front : List X) (x : X) (whole : xs ≡ rest ++ drop (length rest) xs) (e : rest ≡ front ++ x ∷ []) where
+  split : xs ≡ front ++ (x ∷ drop (length rest) xs)
+  split = whole ∙ ap (λ r. r ++ drop (length rest) xs) e ∙ append_assoc front (x ∷ []) (drop (length rest) xs)
 
-pub none : (id : ℕ) (spans : List SpanRow) → first_with id (drop (length spans) spans) (length spans) ≡ None
-none id spans = ap (λ xs. first_with id xs (length spans)) (drop_all (length spans) spans (omega arith))
+  behind : drop (length front) xs ≡ x ∷ drop (length rest) xs
+  behind = ap (drop (length front)) split ∙ drop-append_seam front (x ∷ drop (length rest) xs)
 
--- what a search from place j on finds
-record Found (id : ℕ) (xs : List SpanRow) (j i : ℕ) : Type 0 where
-  steps : ℕ
-  is : i ≡ j + steps
-  below : steps < length xs
-  has : (d : SpanRow) → (get_or xs steps d).span_id ≡ id
-  none_before : NoneBelow xs id steps
+  pub whole_front : xs ≡ front ++ drop (length front) xs
+  whole_front = split ∙ ap (λ ys. front ++ ys) (sym behind)
 
-abbrev Search : ℕ → List SpanRow → ℕ → Option ℕ → Type 0
-Search id xs j None = NoneBelow xs id (length xs)
-Search id xs j (Some i) = Found id xs j i
+  pub one_longer : length rest ≡ length front + 1
+  one_longer = ap length e ∙ length-append front (x ∷ [])
 
--- one span more in front that lacks the number
-later : (id : ℕ) (x : SpanRow) (xs : List SpanRow) (n : ℕ) → (x.span_id ≡ id → ⊥) → NoneBelow xs id n → NoneBelow (x ∷ xs) id (suc n)
-later id x xs n not rest zero d l e = not e
-later id x xs n not rest (suc k) d l e = rest k d (omega arith) e
+  pub found_front : (p : X → Bool) → position_from p (length front) (drop (length front) xs) ≡ cond (p x) (Some (length front)) (position_from p (length rest) (drop (length rest) xs))
+  found_front p = ap (position_from p (length front)) behind ∙ ap (λ n. cond (p x) (Some (length front)) (position_from p n (drop (length rest) xs))) (sym one_longer)
 
-shift : (id : ℕ) (x : SpanRow) (xs : List SpanRow) (j : ℕ) (o : Option ℕ) → (x.span_id ≡ id → ⊥) → Search id xs (j + 1) o → Search id (x ∷ xs) j o
-shift id x xs j None not s = later id x xs (length xs) not s
-shift id x xs j (Some i) not s = record {
-  steps = suc s.steps;
-  is = omega (arith, s.is);
-  below = omega (arith, s.below);
-  has = s.has;
-  none_before = later id x xs s.steps not s.none_before;
-}
-
-searched_by : (id : ℕ) (x : SpanRow) (xs : List SpanRow) (j : ℕ) (b : Bool) → eqb x.span_id id ≡ b → Search id xs (j + 1) (first_with id xs (j + 1)) → Search id (x ∷ xs) j (cond b (Some j) (first_with id xs (j + 1)))
-searched_by id x xs j true e s = record { steps = 0; is = omega arith; below = omega arith; has = λ d. eqb-true _ _ e; none_before = λ k d l. absurd (omega arith) }
-searched_by id x xs j false e s = shift id x xs j (first_with id xs (j + 1)) (eqb-false _ _ e) s
-
-searched : (id : ℕ) (xs : List SpanRow) (j : ℕ) → Search id xs j (first_with id xs j)
-searched id [] j = λ k d l. absurd (omega arith)
-searched id (x ∷ xs) j = searched_by id x xs j (eqb x.span_id id) refl (searched id xs (j + 1))
-
-told : (id : ℕ) (xs : List SpanRow) (o : Option ℕ) → Search id xs 0 o → IsFirst xs id o
-told id xs None s = s
-told id xs (Some i) s =
-    let e : s.steps ≡ i = omega (arith, s.is) in
-    subst (λ k. (k < length xs) × ((d : SpanRow) → (get_or xs k d).span_id ≡ id) × NoneBelow xs id k) e (s.below, s.has, s.none_before)
+holds : (b : Bool) → not b ≡ false → b ≡ true
+holds true e = refl
+holds false e = sym e
 
 -- the search finds the first span with the number
-pub is_first : (id : ℕ) (spans : List SpanRow) → IsFirst spans id (first_with id spans 0)
-is_first id spans = told id spans (first_with id spans 0) (searched id spans 0)
+is_first : (id : ℕ) (spans : List SpanRow) → IsFirst spans id (first_with id spans)
+is_first id spans = by (nat_lt (position_or_len (λ (s : SpanRow). nat_eq s.span_id id) spans) (length spans)) refl
+  where
+    before : NoneBelow spans id (position_or_len (λ (s : SpanRow). nat_eq s.span_id id) spans)
+    before k d l e =
+        let passes = prefix_len_passes (λ (s : SpanRow). not (nat_eq s.span_id id)) spans k d l in
+        let same = eq-eqb _ _ e in
+        cc
 
-pub all_parents : (spans : List SpanRow) (parents : List (Option ℕ)) → parents ≡ map (λ (s : SpanRow). first_with s.parent_id spans 0) spans → Parents spans parents
+    by : (b : Bool) → nat_lt (position_or_len (λ (s : SpanRow). nat_eq s.span_id id) spans) (length spans) ≡ b → IsFirst spans id (cond b (Some (position_or_len (λ (s : SpanRow). nat_eq s.span_id id) spans)) None)
+    by true t =
+        let within : position_or_len (λ (s : SpanRow). nat_eq s.span_id id) spans < length spans = grind (arith, nat_tests, t) in
+        (within, λ d. eqb-true _ _ (holds _ (prefix_len_stops (λ (s : SpanRow). not (nat_eq s.span_id id)) spans d within)), before)
+    by false t =
+        let past : length spans ≤ position_or_len (λ (s : SpanRow). nat_eq s.span_id id) spans = grind (arith, nat_tests, t) in
+        λ k d l. before k d (omega (arith, past, l))
+
+pub all_parents : (spans : List SpanRow) (parents : List (Option ℕ)) → parents ≡ map (λ (s : SpanRow). first_with s.parent_id spans) spans → Parents spans parents
 all_parents spans parents e = record {
   long = ap length e ∙ simp length-map;
-  parent = λ k d o l. let here = ap (λ ps. get_or ps k o) e ∙ get_or-map (λ (s : SpanRow). first_with s.parent_id spans 0) spans k d o l in subst (IsFirst spans (get_or spans k d).parent_id) (sym here) (is_first (get_or spans k d).parent_id spans);
+  parent = λ k d o l. let here = ap (λ ps. get_or ps k o) e ∙ get_or-map (λ (s : SpanRow). first_with s.parent_id spans) spans k d o l in subst (IsFirst spans (get_or spans k d).parent_id) (sym here) (is_first (get_or spans k d).parent_id spans);
 }
 
 -- one parent more at the end

@@ -1,5 +1,5 @@
 -- Who is whose parent in a trace. Assumes nothing.
-use Rattle.std.specs.Prelude.{◌≡◌, ℕ, ◌+◌, ◌<◌, ◌≤◌, cond, ◌⊎◌, List, [], ◌∷◌, length, get_or, take, drop, Some, None, Option, ◌==◌, ◌≢◌, slice_index_or}
+use Rattle.std.specs.Prelude.{◌≡◌, ℕ, ◌<◌, ◌≤◌, ◌⊎◌, List, length, get_or, take, drop, position, Some, None, Option, ◌==◌, ◌≢◌, slice_index_or}
 use Rattle.listing.specs.declared.row.SpanRow.{SpanRow}
 
 -- no span below this place has the number
@@ -16,10 +16,9 @@ pub record Parents (spans : List SpanRow) (parents : List (Option ℕ)) : Type 0
   pub long : length parents ≡ length spans
   pub parent : (k : ℕ) (d : SpanRow) (o : Option ℕ) → k < length spans → IsFirst spans (get_or spans k d).parent_id (slice_index_or parents k o)
 
--- the same as a search from place i on
-abbrev pub first_with : ℕ → List SpanRow → ℕ → Option ℕ
-first_with id [] i = None
-first_with id (x ∷ xs) i = cond (x.span_id == id) (Some i) (first_with id xs (i + 1))
+-- the same as a search
+abbrev pub first_with : ℕ → List SpanRow → Option ℕ
+first_with id spans = position (λ s. s.span_id == id) spans
 
 -- the first answers are the parents, and those behind them are as before
 pub record Found (spans : List SpanRow) (entries : ℕ) (old new : List (Option ℕ)) : Type 0 where

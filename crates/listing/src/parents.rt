@@ -1,21 +1,22 @@
 // The parent of each span of a trace, found through a keyed list of the span numbers.
-ghost use Rattle.std.specs.Prelude.{◌≡◌, ℕ, ◌<◌, ◌≤◌, length, take, IfOk, OnErr, OnOk, nat_eq};
+ghost use Rattle.std.specs.Prelude.{◌≡◌, ℕ, ◌≤◌, length, IfOk, OnErr, OnOk, nat_eq};
 ghost use Rattle.keyed.specs.Keyed.{value_of};
+ghost use Rattle.keyed.specs.Used.{used};
 ghost use Rattle.listing.specs.Parents.{first_with, Parents, Found, Few};
 
 use crate::row::SpanRow;
 use keyed::list::{Entry, KeyedList, Shortage};
-use keyed::sameness::SpanNumbers;
+use keyed::sameness::Equality;
 use std::alloc::{AllocError, Global};
 
 // Puts the place of each span under its number, from the last span to the first: so the first span of a number stays.
 fn index_spans(spans: &[SpanRow], list: &mut KeyedList<'_, u64, usize>)
     requires empty { list.old.len ≡ 0 }
     requires room { length spans.now ≤ length list.old.entries.now }
-    ensures { (id : ℕ) → value_of nat_eq id (take list.new.len list.new.entries.now) ≡ first_with id spans.now 0 }
+    ensures { (id : ℕ) → value_of nat_eq id (used list.new) ≡ first_with id spans.now }
 {
-    for i in (0..spans.len()).rev() {
-        let _ = list.put(spans[i].span_id, i, &SpanNumbers);
+    for (i, span) in spans.iter().enumerate().rev() {
+        let _ = list.put(span.span_id, i, &Equality);
     }
 }
 
@@ -35,8 +36,9 @@ pub fn find_parents(
     }
     let mut list = KeyedList::new(memory);
     index_spans(spans, &mut list);
-    for i in 0..spans.len() {
-        parents[i] = list.get(spans[i].parent_id, &SpanNumbers);
+    // By index: `parents.iter_mut().zip(spans)` was tried, and a proof then knows nothing of the parents after the loop.
+    for (i, span) in spans.iter().enumerate() {
+        parents[i] = list.get(span.parent_id, &Equality);
     }
     Ok(())
 }
@@ -45,10 +47,7 @@ pub fn find_parents(
 pub fn list_parents(heap: Global, spans: &[SpanRow]) -> Result<Vec<Option<usize>>, AllocError>
     ensures { IfOk result (λ v. Parents spans.now v.items) }
 {
-    let mut memory = vec![in heap; Entry {
-        key: 0u64,
-        value: 0usize
-    }; spans.len()]?;
+    let mut memory = vec![in heap; Entry::default(); spans.len()]?;
     let mut parents = vec![in heap; None; spans.len()]?;
     let _ = find_parents(spans, memory.as_mut_slice(), parents.as_mut_slice());
     Ok(parents)

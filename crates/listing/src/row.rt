@@ -1,5 +1,5 @@
 // What the listing shows of a span.
-#[derive(Clone, Copy)]
+#[derive(Clone, Copy, Debug, Default, PartialEq, Eq)]
 pub struct SpanRow {
     pub trace_id: u64,
     pub span_id: u64,

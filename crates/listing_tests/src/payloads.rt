@@ -1,26 +1,24 @@
 // Whole payloads, and each refusal of a listing.
 use spanlist::list::list_payload;
 use std::alloc::Global;
+use std::iter;
 use std::test::Fail;
 
 // One trace of one span with `span_id` 7 and `duration` -1.
-const NOTE: [u8; 22] = [
-    0x91, 0x91, 0x82, 0xA7, 0x73, 0x70, 0x61, 0x6E, 0x5F, 0x69, 0x64, 0x07, 0xA8, 0x64, 0x75, 0x72,
-    0x61, 0x74, 0x69, 0x6F, 0x6E, 0xFF,
-];
+const NOTE: &[u8] = b"\x91\x91\x82\xA7span_id\x07\xA8duration\xFF";
 
-// The number of the refusal, or 0 where there is a listing.
-fn refusal_of(heap: Global, payload: &[u8]) -> u8 {
+// Nothing where there is a listing, or the number of the refusal.
+fn listed(heap: Global, payload: &[u8]) -> Result<(), Option<u8>> {
     match list_payload(heap, payload) {
-        Ok(_) => 0,
-        Err(refusal) => refusal.number().unwrap_or(255),
+        Ok(_) => Ok(()),
+        Err(refusal) => Err(refusal.number()),
     }
 }
 
 #[test]
 fn lists_the_note(rt: HostRuntime) -> Result<(), Fail> {
     let heap = rt.alloc();
-    let Ok(lines) = list_payload(heap, &NOTE) else {
+    let Ok(lines) = list_payload(heap, NOTE) else {
         return Err(Fail::new("refused"));
     };
     assert_eq!(rt; lines.len(), 1);
@@ -34,37 +32,18 @@ fn lists_the_note(rt: HostRuntime) -> Result<(), Fail> {
 #[test]
 fn refuses_damaged_payloads(rt: HostRuntime) {
     let heap = rt.alloc();
-    assert_eq!(rt;
-        refusal_of(
-            heap,
-            &[
-                0x91, 0x91, 0x81, 0xA7, 0x73, 0x70, 0x61, 0x6E, 0x5F, 0x69, 0x64, 0xFF,
-            ],
-        ),
-        1
-    );
-    assert_eq!(rt;
-        refusal_of(
-            heap,
-            &[
-                0x91, 0x91, 0x81, 0xA7, 0x73, 0x70, 0x61, 0x6E, 0x5F, 0x69, 0x64, 0xA0,
-            ],
-        ),
-        2
-    );
-    assert_eq!(rt; refusal_of(heap, &[]), 3);
-    assert_eq!(rt; refusal_of(heap, &[0x91, 0x91, 0x81, 0xA2, 0x78]), 4);
-    assert_eq!(rt;
-        refusal_of(heap, &[0x91, 0x91, 0x81, 0xA3, 0xED, 0xA0, 0x80]),
-        5
-    );
-    assert_eq!(rt; refusal_of(heap, &[0xDD, 0xFF, 0xFF, 0xFF, 0xFF]), 3);
+    assert_eq!(rt; listed(heap, b"\x91\x91\x81\xA7span_id\xFF"), Err(Some(1)));
+    assert_eq!(rt; listed(heap, b"\x91\x91\x81\xA7span_id\xA0"), Err(Some(2)));
+    assert_eq!(rt; listed(heap, b""), Err(Some(3)));
+    assert_eq!(rt; listed(heap, b"\x91\x91\x81\xA2x"), Err(Some(4)));
+    assert_eq!(rt; listed(heap, b"\x91\x91\x81\xA3\xED\xA0\x80"), Err(Some(5)));
+    assert_eq!(rt; listed(heap, b"\xDD\xFF\xFF\xFF\xFF"), Err(Some(3)));
 }
 
 #[test]
 fn cut_notes_are_refused(rt: HostRuntime) {
     for end in 0..NOTE.len() {
-        assert_ne!(rt; refusal_of(rt.alloc(), &NOTE[0..end]), 0);
+        assert!(rt; listed(rt.alloc(), &NOTE[..end]).is_err());
     }
 }
 
@@ -72,64 +51,33 @@ fn cut_notes_are_refused(rt: HostRuntime) {
 fn empty_ones(heap: Global, head: &[u8], count: usize, each: u8) -> Result<Vec<u8>, Fail> {
     let mut payload = Vec::new(heap);
     payload.extend_from_slice(head)?;
-    for _ in 0..count {
-        payload.push(each)?;
-    }
+    payload.extend(iter::repeat_n(each, count))?;
     Ok(payload)
 }
 
 #[test]
 fn tables_are_limited(rt: HostRuntime) -> Result<(), Fail> {
     let heap = rt.alloc();
-    assert_eq!(rt;
-        refusal_of(
-            heap,
-            empty_ones(heap, &[0xDC, 0x00, 0x40], 64, 0x90)?.as_slice(),
-        ),
-        0
-    );
-    assert_eq!(rt;
-        refusal_of(
-            heap,
-            empty_ones(heap, &[0xDC, 0x00, 0x41], 65, 0x90)?.as_slice(),
-        ),
-        6
-    );
-    assert_eq!(rt;
-        refusal_of(
-            heap,
-            empty_ones(heap, &[0x91, 0xDC, 0x02, 0x00], 512, 0x80)?.as_slice(),
-        ),
-        0
-    );
-    assert_eq!(rt;
-        refusal_of(
-            heap,
-            empty_ones(heap, &[0x91, 0xDC, 0x02, 0x01], 513, 0x80)?.as_slice(),
-        ),
-        6
-    );
+    let traces = empty_ones(heap, b"\xDC\x00\x40", 64, 0x90)?;
+    assert_eq!(rt; listed(heap, traces.as_slice()), Ok(()));
+    let traces = empty_ones(heap, b"\xDC\x00\x41", 65, 0x90)?;
+    assert_eq!(rt; listed(heap, traces.as_slice()), Err(Some(6)));
+    let spans = empty_ones(heap, b"\x91\xDC\x02\x00", 512, 0x80)?;
+    assert_eq!(rt; listed(heap, spans.as_slice()), Ok(()));
+    let spans = empty_ones(heap, b"\x91\xDC\x02\x01", 513, 0x80)?;
+    assert_eq!(rt; listed(heap, spans.as_slice()), Err(Some(6)));
     // a fault behind the limit comes first
-    assert_eq!(rt;
-        refusal_of(
-            heap,
-            empty_ones(heap, &[0x91, 0xDC, 0x02, 0x02], 513, 0x80)?.as_slice(),
-        ),
-        3
-    );
+    let spans = empty_ones(heap, b"\x91\xDC\x02\x02", 513, 0x80)?;
+    assert_eq!(rt; listed(heap, spans.as_slice()), Err(Some(3)));
     Ok(())
 }
 
 #[test]
 fn input_is_limited(rt: HostRuntime) -> Result<(), Fail> {
     let heap = rt.alloc();
-    assert_eq!(rt;
-        refusal_of(heap, empty_ones(heap, &[0x90], 65_535, 0x00)?.as_slice()),
-        0
-    );
-    assert_eq!(rt;
-        refusal_of(heap, empty_ones(heap, &[0x90], 65_536, 0x00)?.as_slice()),
-        8
-    );
+    let long = empty_ones(heap, b"\x90", 65_535, 0x00)?;
+    assert_eq!(rt; listed(heap, long.as_slice()), Ok(()));
+    let long = empty_ones(heap, b"\x90", 65_536, 0x00)?;
+    assert_eq!(rt; listed(heap, long.as_slice()), Err(Some(8)));
     Ok(())
 }

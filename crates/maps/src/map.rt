@@ -1,79 +1,68 @@
 // A map of pairs, told to a receiver pair by pair.
-ghost use Rattle.std.specs.Prelude.{◌≡◌, List, []};
-ghost use Rattle.items.specs.Reads.{Takes, nothing, times, fold};
+ghost use Rattle.std.specs.Prelude.{[]};
+ghost use Rattle.items.specs.Reads.{nothing};
 ghost use Rattle.trees.specs.Records.{a_map, nullable};
 ghost use Rattle.trees.specs.Steps.{tell_pairs, tell_a_pair};
+ghost use Rattle.trees.specs.Tellings.{Tells};
+ghost use Rattle.trees.specs.Tree.{Pair};
 
 use crate::pairs::PairReader;
-use items::buffer::Buffer;
 use items::fault::ItemFault;
+use items::head::Kind;
 use trees::keys::PairKey;
 use trees::receiver::Receiver;
-use trees::step::{Mark, Step};
+use trees::repeated::{Repeated, read_times};
+use trees::step::Step;
+use trees::telling::Telling;
 
-// Reads one pair and tells it, unless its value is null.
-fn tell_pair<P: PairReader, R: Receiver>(
-    buf: &mut Buffer<'_>,
-    pairs: &P,
-    key: PairKey,
-    to: &mut R,
-) -> Result<(), ItemFault>
-    ensures takes { Takes (tell_a_pair (R.Receiver.act buf.old.window.now) key) nothing (R.Receiver.state to.old) (R.Receiver.state to.new) result buf.new.pos (P.PairReader.one pairs.now buf.old.window.now buf.old.pos) }
-    ensures window { buf.new.window ≡ buf.old.window }
-{
-    let pair = pairs.read_pair(buf)?;
-    if let Some(value) = pair.value {
-        to.take(buf.window, Step::Pair(key, pair.key, value));
-    }
-    Ok(())
+// The pairs of a map, and the field that holds it.
+#[derive(Clone, Copy)]
+pub struct Pairs<P> {
+    pub kind: P,
+    pub key: PairKey,
 }
 
-// Reads so many pairs.
-fn read_pairs<P: PairReader, R: Receiver>(
-    buf: &mut Buffer<'_>,
-    count: u64,
-    pairs: &P,
-    key: PairKey,
-    to: &mut R,
-) -> Result<(), ItemFault>
-    ensures takes { Takes (fold (tell_a_pair (R.Receiver.act buf.old.window.now) key)) nothing (R.Receiver.state to.old) (R.Receiver.state to.new) result buf.new.pos (times count (P.PairReader.one pairs.now buf.old.window.now) buf.old.pos) }
-    ensures window { buf.new.window ≡ buf.old.window }
-{
-    for _ in 0..count {
-        tell_pair(buf, pairs, key, to)?;
+impl<P: PairReader> Repeated for Pairs<P> {
+    type Fault = ItemFault;
+
+    ghost Tree = { Pair };
+
+    ghost one = { λ s. P.PairReader.one s.kind };
+
+    ghost tell = { λ s act. tell_a_pair act s.key };
+
+    // Reads one pair and tells it, unless its value is null.
+    fn read<R: Receiver>(&self, from: &mut Telling<'_, '_, R>) -> Result<(), ItemFault> {
+        let pair = self.kind.read_pair(&mut from.buf)?;
+        if let Some(value) = pair.value {
+            from.take(Step::Pair(self.key, pair.key, value));
+        }
+        Ok(())
     }
-    Ok(())
 }
 
 // Reads a map of pairs of any kind.
 pub fn read_map<P: PairReader, R: Receiver>(
-    buf: &mut Buffer<'_>,
-    pairs: &P,
-    key: PairKey,
-    to: &mut R,
+    pairs: &Pairs<P>,
+    from: &mut Telling<'_, '_, R>,
 ) -> Result<(), ItemFault>
-    ensures takes { Takes (tell_pairs (R.Receiver.act buf.old.window.now) key) nothing (R.Receiver.state to.old) (R.Receiver.state to.new) result buf.new.pos (a_map (P.PairReader.failing pairs.now) (P.PairReader.one pairs.now) buf.old.window.now buf.old.pos) }
-    ensures window { buf.new.window ≡ buf.old.window }
+    ensures { Tells R.Receiver (λ act. tell_pairs act pairs.now.key) nothing result from.old from.new (a_map (P.PairReader.failing pairs.now.kind) (P.PairReader.one pairs.now.kind)) }
 {
-    let count = pairs.read_count(buf)?;
-    to.mark(buf.window, Mark::BeginPairs(key));
-    read_pairs(buf, count, pairs, key, to)?;
-    Ok(())
+    let count = from.buf.read_length(Kind::Map, pairs.kind.causes())?;
+    from.take(Step::BeginPairs(pairs.key));
+    read_times(pairs, count, from)
 }
 
 // Reads such a map, or null for an empty one.
 pub fn read_nullable_map<P: PairReader, R: Receiver>(
-    buf: &mut Buffer<'_>,
-    pairs: &P,
-    key: PairKey,
-    to: &mut R,
+    pairs: &Pairs<P>,
+    from: &mut Telling<'_, '_, R>,
 ) -> Result<(), ItemFault>
-    ensures takes { Takes (tell_pairs (R.Receiver.act buf.old.window.now) key) nothing (R.Receiver.state to.old) (R.Receiver.state to.new) result buf.new.pos (nullable [] (a_map (P.PairReader.failing pairs.now) (P.PairReader.one pairs.now)) buf.old.window.now buf.old.pos) }
-    ensures window { buf.new.window ≡ buf.old.window }
+    ensures { Tells R.Receiver (λ act. tell_pairs act pairs.now.key) nothing result from.old from.new (nullable [] (a_map (P.PairReader.failing pairs.now.kind) (P.PairReader.one pairs.now.kind))) }
 {
-    if buf.handle_null_marker() {
-        to.mark(buf.window, Mark::BeginPairs(key));
+    if from.buf.handle_null_marker() {
+        from.take(Step::BeginPairs(pairs.key));
         return Ok(());
     }
-    read_map(buf, pairs, key, to)
+    read_map(pairs, from)
 }

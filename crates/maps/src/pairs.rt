@@ -2,18 +2,17 @@
 ghost use Rattle.std.specs.Prelude.{◌≡◌, ℕ, List};
 ghost use Rattle.items.specs.declared.fault.DecodeError.TheVariants.{InvalidFormat};
 ghost use Rattle.items.specs.declared.fault.ItemFault.{ItemFault as Fault};
-ghost use Rattle.items.specs.declared.head.Kind.TheVariants.{Map as AsMap};
 ghost use Rattle.items.specs.declared.item.ItemKind.TheVariants.{Text as AsText, Bytes as AsBytes, Index as AsIndex, Double as AsDouble};
 ghost use Rattle.items.specs.declared.length.Causes.{Causes as AllCauses};
-ghost use Rattle.items.specs.Items.{a_length, all_causes, value_causes};
-ghost use Rattle.items.specs.Reads.{Outcome, Says};
+ghost use Rattle.items.specs.Buffers.{ReadsOn};
+ghost use Rattle.items.specs.Items.{all_causes, value_causes};
+ghost use Rattle.items.specs.Reads.{Outcome};
 ghost use Rattle.trees.specs.Records.{a_pair, text_text};
 ghost use Rattle.trees.specs.Tree.{Pair};
 ghost use Rattle.maps.specs.Pairs.{pair_of};
 
 use items::buffer::Buffer;
 use items::fault::{DecodeError, ItemFault};
-use items::head::Kind;
 use items::item::{Item, ItemKind};
 use items::length::Causes;
 
@@ -32,31 +31,12 @@ pub trait PairReader {
     // the causes of a failing map length
     ghost failing: { Self → AllCauses };
 
-    // Reads the length of a map of such pairs.
-    fn read_count(&self, buf: &mut Buffer<'_>) -> Result<u64, ItemFault>
-        ensures says { Says (λ n. n) result buf.new.pos (a_length AsMap (failing self.now) buf.old.window.now buf.old.pos) }
-        ensures window { buf.new.window ≡ buf.old.window };
+    // The causes of a failing length of a map of such pairs.
+    fn causes(&self) -> Causes
+        ensures { result ≡ failing self.now };
 
     fn read_pair<'a>(&self, buf: &mut Buffer<'a>) -> Result<PairRead<'a>, ItemFault>
-        ensures says { Says pair_of result buf.new.pos (one self.now buf.old.window.now buf.old.pos) }
-        ensures window { buf.new.window ≡ buf.old.window };
-}
-
-// Two items, neither of which is null.
-fn read_both<'a>(
-    buf: &mut Buffer<'a>,
-    key: ItemKind,
-    value: ItemKind,
-) -> Result<PairRead<'a>, ItemFault>
-    ensures says { Says pair_of result buf.new.pos (a_pair key value buf.old.window.now buf.old.pos) }
-    ensures window { buf.new.window ≡ buf.old.window }
-{
-    let key = buf.read_item(key)?;
-    let value = buf.read_item(value)?;
-    Ok(PairRead {
-        key,
-        value: Some(value),
-    })
+        ensures { ReadsOn pair_of result buf.old buf.new (one self.now) };
 }
 
 // Text with text, where null drops the pair.
@@ -68,9 +48,8 @@ impl PairReader for TextTexts {
 
     ghost failing = { λ _. all_causes InvalidFormat };
 
-    fn read_count(&self, buf: &mut Buffer<'_>) -> Result<u64, ItemFault> {
-        let count = buf.read_length(Kind::Map, Causes::all(DecodeError::InvalidFormat))?;
-        Ok(count)
+    fn causes(&self) -> Causes {
+        Causes::all(DecodeError::InvalidFormat)
     }
 
     fn read_pair<'a>(&self, buf: &mut Buffer<'a>) -> Result<PairRead<'a>, ItemFault> {
@@ -86,86 +65,70 @@ impl PairReader for TextTexts {
     }
 }
 
-// Text with metric.
+// An item of one kind with an item of another, neither of which is null.
 #[derive(Clone, Copy)]
-pub struct TextMetrics;
-
-impl PairReader for TextMetrics {
-    ghost one = { λ _. a_pair AsText AsDouble };
-
-    ghost failing = { λ _. value_causes };
-
-    fn read_count(&self, buf: &mut Buffer<'_>) -> Result<u64, ItemFault> {
-        let count = buf.read_length(Kind::Map, Causes::of_values())?;
-        Ok(count)
-    }
-
-    fn read_pair<'a>(&self, buf: &mut Buffer<'a>) -> Result<PairRead<'a>, ItemFault> {
-        read_both(buf, ItemKind::Text, ItemKind::Double)
-    }
+pub struct ItemPairs {
+    key: ItemKind,
+    value: ItemKind,
+    causes: Causes,
 }
 
-// Text with byte part.
-#[derive(Clone, Copy)]
-pub struct TextBytes;
-
-impl PairReader for TextBytes {
-    ghost one = { λ _. a_pair AsText AsBytes };
-
-    ghost failing = { λ _. value_causes };
-
-    fn read_count(&self, buf: &mut Buffer<'_>) -> Result<u64, ItemFault> {
-        let count = buf.read_length(Kind::Map, Causes::of_values())?;
-        Ok(count)
+impl ItemPairs {
+    fn of(key: ItemKind, value: ItemKind, causes: Causes) -> ItemPairs
+        ensures { result ≡ record { key = key; value = value; causes = causes } }
+    {
+        ItemPairs { key, value, causes }
     }
 
-    fn read_pair<'a>(&self, buf: &mut Buffer<'a>) -> Result<PairRead<'a>, ItemFault> {
-        read_both(buf, ItemKind::Text, ItemKind::Bytes)
-    }
-}
-
-// Index with index, both below the number of texts in the dictionary.
-#[derive(Clone, Copy)]
-pub struct IndexIndexes {
-    pub texts: u64,
-}
-
-impl PairReader for IndexIndexes {
-    ghost one = { λ s. a_pair (AsIndex s.texts) (AsIndex s.texts) };
-
-    ghost failing = { λ _. all_causes InvalidFormat };
-
-    fn read_count(&self, buf: &mut Buffer<'_>) -> Result<u64, ItemFault> {
-        let count = buf.read_length(Kind::Map, Causes::all(DecodeError::InvalidFormat))?;
-        Ok(count)
+    // Text with metric.
+    pub fn text_metrics() -> ItemPairs
+        ensures { result ≡ record { key = AsText; value = AsDouble; causes = value_causes } }
+    {
+        ItemPairs::of(ItemKind::Text, ItemKind::Double, Causes::of_values())
     }
 
-    fn read_pair<'a>(&self, buf: &mut Buffer<'a>) -> Result<PairRead<'a>, ItemFault> {
-        read_both(
-            buf,
-            ItemKind::Index(self.texts),
-            ItemKind::Index(self.texts),
+    // Text with byte part.
+    pub fn text_bytes() -> ItemPairs
+        ensures { result ≡ record { key = AsText; value = AsBytes; causes = value_causes } }
+    {
+        ItemPairs::of(ItemKind::Text, ItemKind::Bytes, Causes::of_values())
+    }
+
+    // Index with index, both below the number of texts in the dictionary.
+    pub fn index_indexes(texts: u64) -> ItemPairs
+        ensures { result ≡ record { key = AsIndex texts; value = AsIndex texts; causes = all_causes InvalidFormat } }
+    {
+        let index = ItemKind::Index(texts);
+        ItemPairs::of(index, index, Causes::all(DecodeError::InvalidFormat))
+    }
+
+    // Index with metric.
+    pub fn index_metrics(texts: u64) -> ItemPairs
+        ensures { result ≡ record { key = AsIndex texts; value = AsDouble; causes = value_causes } }
+    {
+        ItemPairs::of(
+            ItemKind::Index(texts),
+            ItemKind::Double,
+            Causes::of_values(),
         )
     }
 }
 
-// Index with metric.
-#[derive(Clone, Copy)]
-pub struct IndexMetrics {
-    pub texts: u64,
-}
+impl PairReader for ItemPairs {
+    ghost one = { λ s. a_pair s.key s.value };
 
-impl PairReader for IndexMetrics {
-    ghost one = { λ s. a_pair (AsIndex s.texts) AsDouble };
+    ghost failing = { λ s. s.causes };
 
-    ghost failing = { λ _. value_causes };
-
-    fn read_count(&self, buf: &mut Buffer<'_>) -> Result<u64, ItemFault> {
-        let count = buf.read_length(Kind::Map, Causes::of_values())?;
-        Ok(count)
+    fn causes(&self) -> Causes {
+        self.causes
     }
 
     fn read_pair<'a>(&self, buf: &mut Buffer<'a>) -> Result<PairRead<'a>, ItemFault> {
-        read_both(buf, ItemKind::Index(self.texts), ItemKind::Double)
+        let key = buf.read_item(self.key)?;
+        let value = buf.read_item(self.value)?;
+        Ok(PairRead {
+            key,
+            value: Some(value),
+        })
     }
 }

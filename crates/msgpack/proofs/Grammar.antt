@@ -1,11 +1,11 @@
 -- The grammar describes the encodings of the scalar values. Assumes nothing.
-use Rattle.std.proofs.Common.{◌≡◌, ℕ, ◌+◌, ◌-◌, ◌*◌, ◌/◌, ◌<◌, ◌≤◌, Bool, true, false, ◌&&◌, ◌⊎◌, List, [], ◌∷◌, ◌++◌, IsUtf8, sym, refl, ap, ◌∙◌, subst, inl, inr, ⊎_elim, arith}
+use Rattle.std.proofs.Common.{◌≡◌, ℕ, ◌+◌, ◌-◌, ◌*◌, ◌/◌, ◌<◌, ◌≤◌, true, false, ◌⊎◌, List, [], ◌∷◌, ◌++◌, IsUtf8, sym, refl, ap, ◌∙◌, subst, inl, inr, ⊎_elim, arith}
 use lib.Utf8.{scalar, scalars, encode, encodes, next, low_scalar, scalar_cases}
 use Rattle.std.proofs.iter.FirstChar.{one_char}
 use Rattle.std.proofs.str.Valid.{of_two, of_three, of_four}
 use Rattle.std.proofs.str.Laws.{Follows, one, two, three, four, IsUtf8-append}
 use Rattle.std.proofs.lemmas.Str.{IsUtf8-nil}
-use Rattle.std.proofs.lemmas.Bool.{cases_lt}
+use Rattle.std.proofs.lemmas.Bool.{cases_lt, and_parts, false_from_ne_true}
 use Rattle.std.proofs.lemmas.Bool.Decides.{nat_tests}
 use Rattle.msgpack.specs.Text.{Range, range, tail, never, follow, well, utf8}
 
@@ -100,13 +100,10 @@ module _ (rest : List ℕ) where
       (cases_lt c 2048))
       (cases_lt c 128)
 
-both : (x y : Bool) → (x && y) ≡ true → (x ≡ true) × (y ≡ true)
-both x y e = grind arith
-
 pub encoded : (cs : List ℕ) → scalars cs ≡ true → utf8 (encodes cs) ≡ true
 unfolding utf8
 encoded [] e = refl
-encoded (c ∷ cs) e = let p = both (scalar c) (scalars cs) e in char (encodes cs) c p.0 ∙ encoded cs p.1
+encoded (c ∷ cs) e = let p = and_parts (scalar c) (scalars cs) e in char (encodes cs) c p.0 ∙ encoded cs p.1
 
 pub well_formed : (bs : List ℕ) → IsUtf8 bs → utf8 bs ≡ true
 well_formed bs u = subst (λ l. utf8 l ≡ true) u.1.1 (encoded u.0 u.1.0)
@@ -197,8 +194,4 @@ unfolding utf8
 is_text_lem bs e = let p = split [] bs e in subst IsUtf8 (sym (p.whole ∙ ap (λ l. l ++ p.rest) (empty p.front p.ranged))) p.text
 
 pub ill_formed : (bs : List ℕ) → (IsUtf8 bs → ⊥) → utf8 bs ≡ false
-ill_formed bs n = at (utf8 bs) refl
-  where
-    at : (b : Bool) → utf8 bs ≡ b → b ≡ false
-    at true e = absurd (n (is_text_lem bs e))
-    at false e = refl
+ill_formed bs n = false_from_ne_true (utf8 bs) (λ e. n (is_text_lem bs e))

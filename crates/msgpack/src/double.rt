@@ -8,6 +8,7 @@ use std::num::{
 };
 
 // The double nearest to a number; of two as near, the one with an even last digit.
+// Two functions and no generic one, which is no plainer: std has a function for each type and no trait over them, so a trait here would hold these same two bodies.
 pub fn unsigned_bits(n: u64) -> u64
     ensures { result ≡ nearest_double (pos n) }
 {
@@ -24,8 +25,8 @@ pub fn signed_bits(n: i64) -> u64
 fn nan_bits(bits: u32) -> u64
     ensures { result ≡ widened_nan bits }
 {
-    let sign = (bits / 0x8000_0000) as u64;
-    let payload = (bits % 0x40_0000) as u64;
+    let sign = u64::from(bits / 0x8000_0000);
+    let payload = u64::from(bits % 0x40_0000);
     sign * 0x8000_0000_0000_0000 + 0x7ff8_0000_0000_0000 + payload * 0x2000_0000
 }
 

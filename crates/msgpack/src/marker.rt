@@ -4,28 +4,23 @@ ghost use Rattle.msgpack.specs.Numbers.{wide};
 ghost use Rattle.msgpack.specs.Overview.{marker, DecidesEach, Rises, OneRow};
 
 // How many bytes a length or a number takes.
-#[derive(Clone, Copy)]
+#[derive(Clone, Copy, Debug, PartialEq, Eq)]
 pub enum Width {
-    One,
-    Two,
-    Four,
-    Eight,
+    One = 1,
+    Two = 2,
+    Four = 4,
+    Eight = 8,
 }
 
 impl Width {
     pub fn bytes(self) -> usize
         ensures { result ≡ wide self }
     {
-        match self {
-            Width::One => 1,
-            Width::Two => 2,
-            Width::Four => 4,
-            Width::Eight => 8,
-        }
+        self as usize
     }
 }
 
-#[derive(Clone, Copy)]
+#[derive(Clone, Copy, Debug, PartialEq, Eq)]
 pub enum Marker {
     PositiveFixint(u8),
     FixMap(u8),
@@ -47,11 +42,11 @@ pub enum Marker {
     NegativeFixint(u8),
 }
 
-impl Marker {
+impl From<u8> for Marker {
+    ghost from_gives = { λ byte m. m ≡ marker byte };
+
     // The cases stand in the order of the overview's rows.
-    pub fn from_byte(byte: u8) -> Marker
-        ensures { result ≡ marker byte }
-    {
+    fn from(byte: u8) -> Marker {
         match byte {
             0x00..=0x7f => Marker::PositiveFixint(byte),
             0x80..=0x8f => Marker::FixMap(byte - 0x80),
@@ -95,10 +90,8 @@ impl Marker {
 }
 
 // Each of the 256 first bytes is decided by one row of the overview alone.
-pub fn overview_decides() -> u8
+pub fn overview_decides()
     ensures tells { DecidesEach }
     ensures rises { Rises }
     ensures one { OneRow }
-{
-    0
-}
+{}

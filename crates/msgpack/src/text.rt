@@ -6,8 +6,5 @@ ghost use Rattle.msgpack.specs.Text.{utf8};
 pub fn is_text(bytes: &[u8]) -> bool
     ensures { result ≡ utf8 bytes.now }
 {
-    match std::str::from_utf8(bytes) {
-        Ok(_) => true,
-        Err(_) => false,
-    }
+    std::str::from_utf8(bytes).is_ok()
 }

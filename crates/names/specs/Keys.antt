@@ -1,5 +1,5 @@
 -- The fields of each kind of record. Assumes nothing.
-use Rattle.std.specs.Prelude.{ℕ, cond, List, [], ◌∷◌, Some, None, Option}
+use Rattle.std.specs.Prelude.{ℕ, cond, List, [], ◌∷◌, Some, None, Option, find}
 use Rattle.names.specs.declared.table.Name.{Name}
 use Rattle.names.specs.declared.table.Name.TheVariants as names
 use Rattle.names.specs.declared.keys.AttributeAnyKey.{AttributeAnyKey}
@@ -17,8 +17,7 @@ use Rattle.names.specs.declared.keys.AttributeArrayKey.TheVariants as element
 
 -- the first of these keys whose name the bytes are (shut, since it is cited at written lists)
 unfoldable pub key_with : {K : Type 0} → (K → Name) → List ℕ → List K → Option K
-key_with name bytes [] = None
-key_with name bytes (k ∷ ks) = cond (is_spelled (name k) bytes) (Some k) (key_with name bytes ks)
+key_with name bytes ks = find (λ k. is_spelled (name k) bytes) ks
 
 -- the fields of a span
 abbrev pub span_name : SpanKey → Name

@@ -1,41 +1,58 @@
 // The fields of each kind of record, by their names.
-ghost use Rattle.std.specs.Prelude.{◌≡◌, ℕ, List, Option as Maybe};
+ghost use Rattle.std.specs.Prelude.{◌≡◌, ℕ, List, Some, Option as Maybe};
 ghost use Rattle.names.specs.declared.table.Name.{Name as AnyName};
 ghost use Rattle.names.specs.Keys.{key_with, span_name, span_keys, link_name, link_keys, event_name, event_keys, element_name, element_keys, attribute_with, values_with};
-ghost use Rattle.names.specs.Tells.{Tells, attribute_name, values_name, WrittenAsText};
+ghost use Rattle.names.specs.Names.{spelled};
+ghost use Rattle.names.specs.Tells.{Tells, found_alone, attribute_name, values_name, attribute_tells, values_tells, WrittenAsText};
+ghost use Rattle.std.proofs.Common.{rules};
 
 use crate::table::Name;
 
-// A field of a record.
-pub trait Key: Copy {
-    ghost named: { Self → AnyName };
-
-    fn name(self) -> Name
-        ensures { result ≡ named self };
-}
-
 // Fields that are found by their names.
 pub trait Named: Sized {
+    ghost named: { Self → AnyName };
+
     ghost found: { List ℕ → Maybe Self };
 
     fn from_bytes(bytes: &[u8]) -> Option<Self>
         ensures { result ≡ found bytes.now };
+
+    // Each field is found by its own name and by nothing else.
+    ghost tells: { Tells named found };
 }
 
-// The first of these fields that has the name.
-fn find_key<K: Key>(keys: &[K], bytes: &[u8]) -> Option<K>
-    ensures { result ≡ key_with K.Key.named bytes.now keys.now }
-{
-    for key in keys {
-        if key.name().is(bytes) {
-            return Some(*key);
-        }
+// A field of a record that has a list of them, each of a name of its own.
+pub trait Key: Copy + 'static {
+    ghost key_name: { Self → AnyName };
+
+    ghost keys: { List Self };
+
+    fn name(self) -> Name
+        ensures { result ≡ key_name self };
+
+    // The fields of the record.
+    fn all() -> &'static [Self]
+        ensures { result.now ≡ keys };
+
+    // Each field is the first of its name.
+    ghost first: { (k : Self) → key_with key_name (spelled (key_name k)) keys ≡ Some k };
+}
+
+impl<K: Key> Named for K {
+    ghost named = { K.key_name };
+
+    ghost found = { λ t. key_with K.key_name t K.keys };
+
+    #[tactic(auto, unfolding(crate::specs::Keys::key_with))]
+    fn from_bytes(bytes: &[u8]) -> Option<K> {
+        K::all().iter().copied().find(|key| key.name().is(bytes))
     }
-    None
+
+    ghost tells = { record { by_name = K.first; alone = found_alone K.key_name K.keys } };
 }
 
 // The fields of a span.
-#[derive(Clone, Copy)]
+#[derive(Clone, Copy, Debug, PartialEq, Eq)]
 pub enum SpanKey {
     Service,
     Name,
@@ -54,26 +71,10 @@ pub enum SpanKey {
     SpanEvents,
 }
 
-const SPAN_KEYS: [SpanKey; 15] = [
-    SpanKey::Service,
-    SpanKey::Name,
-    SpanKey::Resource,
-    SpanKey::TraceId,
-    SpanKey::SpanId,
-    SpanKey::ParentId,
-    SpanKey::Start,
-    SpanKey::Duration,
-    SpanKey::Error,
-    SpanKey::Meta,
-    SpanKey::Metrics,
-    SpanKey::Type,
-    SpanKey::MetaStruct,
-    SpanKey::SpanLinks,
-    SpanKey::SpanEvents,
-];
-
 impl Key for SpanKey {
-    ghost named = { span_name };
+    ghost key_name = { span_name };
+
+    ghost keys = { span_keys };
 
     fn name(self) -> Name {
         match self {
@@ -94,18 +95,32 @@ impl Key for SpanKey {
             SpanKey::SpanEvents => Name::SpanEvents,
         }
     }
-}
 
-impl Named for SpanKey {
-    ghost found = { λ t. key_with span_name t span_keys };
-
-    fn from_bytes(bytes: &[u8]) -> Option<SpanKey> {
-        find_key(&SPAN_KEYS, bytes)
+    fn all() -> &'static [SpanKey] {
+        &[
+            SpanKey::Service,
+            SpanKey::Name,
+            SpanKey::Resource,
+            SpanKey::TraceId,
+            SpanKey::SpanId,
+            SpanKey::ParentId,
+            SpanKey::Start,
+            SpanKey::Duration,
+            SpanKey::Error,
+            SpanKey::Meta,
+            SpanKey::Metrics,
+            SpanKey::Type,
+            SpanKey::MetaStruct,
+            SpanKey::SpanLinks,
+            SpanKey::SpanEvents,
+        ]
     }
+
+    ghost first = { unfold key_with in Prim.search rules };
 }
 
 // The fields of a span link.
-#[derive(Clone, Copy)]
+#[derive(Clone, Copy, Debug, PartialEq, Eq)]
 pub enum SpanLinkKey {
     TraceId,
     TraceIdHigh,
@@ -115,17 +130,10 @@ pub enum SpanLinkKey {
     Flags,
 }
 
-const LINK_KEYS: [SpanLinkKey; 6] = [
-    SpanLinkKey::TraceId,
-    SpanLinkKey::TraceIdHigh,
-    SpanLinkKey::SpanId,
-    SpanLinkKey::Attributes,
-    SpanLinkKey::Tracestate,
-    SpanLinkKey::Flags,
-];
-
 impl Key for SpanLinkKey {
-    ghost named = { link_name };
+    ghost key_name = { link_name };
+
+    ghost keys = { link_keys };
 
     fn name(self) -> Name {
         match self {
@@ -137,32 +145,33 @@ impl Key for SpanLinkKey {
             SpanLinkKey::Flags => Name::Flags,
         }
     }
-}
 
-impl Named for SpanLinkKey {
-    ghost found = { λ t. key_with link_name t link_keys };
-
-    fn from_bytes(bytes: &[u8]) -> Option<SpanLinkKey> {
-        find_key(&LINK_KEYS, bytes)
+    fn all() -> &'static [SpanLinkKey] {
+        &[
+            SpanLinkKey::TraceId,
+            SpanLinkKey::TraceIdHigh,
+            SpanLinkKey::SpanId,
+            SpanLinkKey::Attributes,
+            SpanLinkKey::Tracestate,
+            SpanLinkKey::Flags,
+        ]
     }
+
+    ghost first = { unfold key_with in Prim.search rules };
 }
 
 // The fields of a span event.
-#[derive(Clone, Copy)]
+#[derive(Clone, Copy, Debug, PartialEq, Eq)]
 pub enum SpanEventKey {
     TimeUnixNano,
     Name,
     Attributes,
 }
 
-const EVENT_KEYS: [SpanEventKey; 3] = [
-    SpanEventKey::TimeUnixNano,
-    SpanEventKey::Name,
-    SpanEventKey::Attributes,
-];
-
 impl Key for SpanEventKey {
-    ghost named = { event_name };
+    ghost key_name = { event_name };
+
+    ghost keys = { event_keys };
 
     fn name(self) -> Name {
         match self {
@@ -171,18 +180,20 @@ impl Key for SpanEventKey {
             SpanEventKey::Attributes => Name::Attributes,
         }
     }
-}
 
-impl Named for SpanEventKey {
-    ghost found = { λ t. key_with event_name t event_keys };
-
-    fn from_bytes(bytes: &[u8]) -> Option<SpanEventKey> {
-        find_key(&EVENT_KEYS, bytes)
+    fn all() -> &'static [SpanEventKey] {
+        &[
+            SpanEventKey::TimeUnixNano,
+            SpanEventKey::Name,
+            SpanEventKey::Attributes,
+        ]
     }
+
+    ghost first = { unfold key_with in Prim.search rules };
 }
 
 // The fields of an element of an array value.
-#[derive(Clone, Copy)]
+#[derive(Clone, Copy, Debug, PartialEq, Eq)]
 pub enum AttributeArrayKey {
     Type,
     StringValue,
@@ -191,16 +202,10 @@ pub enum AttributeArrayKey {
     DoubleValue,
 }
 
-const ELEMENT_KEYS: [AttributeArrayKey; 5] = [
-    AttributeArrayKey::Type,
-    AttributeArrayKey::StringValue,
-    AttributeArrayKey::BoolValue,
-    AttributeArrayKey::IntValue,
-    AttributeArrayKey::DoubleValue,
-];
-
 impl Key for AttributeArrayKey {
-    ghost named = { element_name };
+    ghost key_name = { element_name };
+
+    ghost keys = { element_keys };
 
     fn name(self) -> Name {
         match self {
@@ -211,55 +216,66 @@ impl Key for AttributeArrayKey {
             AttributeArrayKey::DoubleValue => Name::DoubleValue,
         }
     }
-}
 
-impl Named for AttributeArrayKey {
-    ghost found = { λ t. key_with element_name t element_keys };
-
-    fn from_bytes(bytes: &[u8]) -> Option<AttributeArrayKey> {
-        find_key(&ELEMENT_KEYS, bytes)
+    fn all() -> &'static [AttributeArrayKey] {
+        &[
+            AttributeArrayKey::Type,
+            AttributeArrayKey::StringValue,
+            AttributeArrayKey::BoolValue,
+            AttributeArrayKey::IntValue,
+            AttributeArrayKey::DoubleValue,
+        ]
     }
+
+    ghost first = { unfold key_with in Prim.search rules };
 }
 
 // The fields of an attribute: those of an element, and an array.
-#[derive(Clone, Copy)]
+#[derive(Clone, Copy, Debug, PartialEq, Eq)]
 pub enum AttributeAnyKey {
     Single(AttributeArrayKey),
     ArrayValue,
 }
 
 impl Named for AttributeAnyKey {
+    ghost named = { attribute_name };
+
     ghost found = { attribute_with };
 
     fn from_bytes(bytes: &[u8]) -> Option<AttributeAnyKey> {
         if Name::ArrayValue.is(bytes) {
-            return Some(AttributeAnyKey::ArrayValue);
-        }
-        match AttributeArrayKey::from_bytes(bytes) {
-            Some(key) => Some(AttributeAnyKey::Single(key)),
-            None => None,
+            Some(AttributeAnyKey::ArrayValue)
+        } else {
+            AttributeArrayKey::from_bytes(bytes).map(AttributeAnyKey::Single)
         }
     }
+
+    ghost tells = { attribute_tells };
 }
 
 // The only field of an array.
-#[derive(Clone, Copy)]
+#[derive(Clone, Copy, Debug, PartialEq, Eq)]
 pub struct ValuesKey;
 
 impl Named for ValuesKey {
+    ghost named = { values_name };
+
     ghost found = { values_with };
 
     fn from_bytes(bytes: &[u8]) -> Option<ValuesKey> {
-        if Name::Values.is(bytes) {
-            Some(ValuesKey)
-        } else {
-            None
-        }
+        Name::Values.is(bytes).then_some(ValuesKey)
     }
+
+    ghost tells = { values_tells };
 }
 
+// The law of a kind of fields.
+fn tells<K: Named>()
+    ensures { Tells K.named K.found }
+{}
+
 // Each field is found by its own name and by nothing else, and each name is written as a text.
-pub fn names_tell() -> u8
+pub fn names_tell()
     ensures span { Tells span_name (λ t. key_with span_name t span_keys) }
     ensures link { Tells link_name (λ t. key_with link_name t link_keys) }
     ensures event { Tells event_name (λ t. key_with event_name t event_keys) }
@@ -268,5 +284,10 @@ pub fn names_tell() -> u8
     ensures values { Tells values_name values_with }
     ensures written { WrittenAsText }
 {
-    0
+    tells::<SpanKey>();
+    tells::<SpanLinkKey>();
+    tells::<SpanEventKey>();
+    tells::<AttributeArrayKey>();
+    tells::<AttributeAnyKey>();
+    tells::<ValuesKey>();
 }

@@ -3,7 +3,7 @@ ghost use Rattle.std.specs.Prelude.{◌≡◌};
 ghost use Rattle.names.specs.Names.{spelled, written_name, is_spelled};
 
 // A name that stands in a record.
-#[derive(Clone, Copy)]
+#[derive(Clone, Copy, Debug, PartialEq, Eq)]
 pub enum Name {
     Service,
     Name,
@@ -34,6 +34,7 @@ pub enum Name {
 }
 
 // Each name as it is written, in the order of `Name`: a head byte, and the name behind it.
+// This stays a table: it is a rule here that names and how they are written stand in one constant table.
 const NAMES: [&[u8]; 26] = [
     b"\xA7service",
     b"\xA4name",

@@ -1,47 +1,111 @@
 // Numbers in one form whatever they are, and truth values.
-ghost use Rattle.sinks.specs.Sinks.{Put};
-ghost use Rattle.msgpack.specs.Encodings.{written_boolean, fixed_u8, fixed_u32, fixed_u64, fixed_i64, fixed_double};
+ghost use Rattle.std.specs.Prelude.{◌^◌, ◌<◌, true, false, List, ℕ, pos, negsuc, refl};
+ghost use Rattle.sinks.specs.Puttings.{Puts};
+ghost use Rattle.msgpack.specs.Encodings.{Item, boolean, integer, float64, written_boolean, fixed_u8, fixed_u32, fixed_u64, fixed_i64, fixed_double};
+ghost use Rattle.puts.specs.Laws.{Encoded, FitsSigned};
+ghost use Rattle.std.proofs.Common.{inl, inr};
 
-use crate::behind::{put_eight, put_four};
+use crate::behind::put_behind;
 use sinks::sink::{Full, Sink};
 
-pub fn put_boolean<S: Sink>(sink: &mut S, b: bool) -> Result<(), Full>
-    ensures { Put S.moved (written_boolean b) (S.state sink.old) (S.state sink.new) result }
-{
-    if b {
-        sink.put(&[0xc3])
-    } else {
-        sink.put(&[0xc2])
+// A value that is written in one form, which is an encoding of the value's item.
+pub trait Fixed {
+    ghost item: { Self → Item };
+
+    ghost Fits: { Self → Type 0 };
+
+    ghost form: { Self → List ℕ };
+
+    fn put_fixed<S: Sink>(self, sink: &mut S) -> Result<(), Full>
+        ensures { Puts S.Sink (form self) sink.old sink.new result };
+
+    ghost encoded: { Encoded item Fits form };
+}
+
+impl Fixed for bool {
+    ghost item = { boolean };
+
+    ghost Fits = { λ _. Unit {0} };
+
+    ghost form = { written_boolean };
+
+    ghost encoded = { elim [ true ↦ λ _. refl | false ↦ λ _. refl ] };
+
+    fn put_fixed<S: Sink>(self, sink: &mut S) -> Result<(), Full> {
+        sink.put(&[if self { 0xc3 } else { 0xc2 }])
     }
 }
 
-pub fn put_u8<S: Sink>(sink: &mut S, n: u8) -> Result<(), Full>
-    ensures { Put S.moved (fixed_u8 n) (S.state sink.old) (S.state sink.new) result }
-{
-    sink.put(&[0xcc, n])
+impl Fixed for u8 {
+    ghost item = { λ n. integer (pos n) };
+
+    ghost Fits = { λ n. n < 2 ^ 8 };
+
+    ghost form = { fixed_u8 };
+
+    ghost encoded = { λ n h. inl (inr (inl (h, refl))) };
+
+    fn put_fixed<S: Sink>(self, sink: &mut S) -> Result<(), Full> {
+        put_behind(sink, 0xcc, self.to_be_bytes())
+    }
 }
 
-pub fn put_u32<S: Sink>(sink: &mut S, n: u32) -> Result<(), Full>
-    ensures { Put S.moved (fixed_u32 n) (S.state sink.old) (S.state sink.new) result }
-{
-    put_four(sink, 0xce, n)
+impl Fixed for u32 {
+    ghost item = { λ n. integer (pos n) };
+
+    ghost Fits = { λ n. n < 2 ^ 32 };
+
+    ghost form = { fixed_u32 };
+
+    ghost encoded = { λ n h. inl (inr (inr (inr (inl (h, refl))))) };
+
+    fn put_fixed<S: Sink>(self, sink: &mut S) -> Result<(), Full> {
+        put_behind(sink, 0xce, self.to_be_bytes())
+    }
 }
 
-pub fn put_u64<S: Sink>(sink: &mut S, n: u64) -> Result<(), Full>
-    ensures { Put S.moved (fixed_u64 n) (S.state sink.old) (S.state sink.new) result }
-{
-    put_eight(sink, 0xcf, n)
+impl Fixed for u64 {
+    ghost item = { λ n. integer (pos n) };
+
+    ghost Fits = { λ n. n < 2 ^ 64 };
+
+    ghost form = { fixed_u64 };
+
+    ghost encoded = { λ n h. inl (inr (inr (inr (inr (inl (h, refl)))))) };
+
+    fn put_fixed<S: Sink>(self, sink: &mut S) -> Result<(), Full> {
+        put_behind(sink, 0xcf, self.to_be_bytes())
+    }
 }
 
-pub fn put_i64<S: Sink>(sink: &mut S, n: i64) -> Result<(), Full>
-    ensures { Put S.moved (fixed_i64 n) (S.state sink.old) (S.state sink.new) result }
-{
-    put_eight(sink, 0xd3, n.cast_unsigned())
+impl Fixed for i64 {
+    ghost item = { integer };
+
+    ghost Fits = { FitsSigned };
+
+    ghost form = { fixed_i64 };
+
+    ghost encoded = { elim [ pos n ↦ λ h. inr (inr (inr (inr (inl (h, refl))))) | negsuc n ↦ λ h. inr (inr (inr (inr (inl (h, refl))))) ] };
+
+    fn put_fixed<S: Sink>(self, sink: &mut S) -> Result<(), Full> {
+        put_behind(sink, 0xd3, self.to_be_bytes())
+    }
 }
 
 // A double by its 64 bits.
-pub fn put_double<S: Sink>(sink: &mut S, bits: u64) -> Result<(), Full>
-    ensures { Put S.moved (fixed_double bits) (S.state sink.old) (S.state sink.new) result }
-{
-    put_eight(sink, 0xcb, bits)
+#[derive(Clone, Copy, Debug, PartialEq, Eq)]
+pub struct DoubleBits(pub u64);
+
+impl Fixed for DoubleBits {
+    ghost item = { λ d. float64 d.0 };
+
+    ghost Fits = { λ d. d.0 < 2 ^ 64 };
+
+    ghost form = { λ d. fixed_double d.0 };
+
+    ghost encoded = { λ d h. (h, refl) };
+
+    fn put_fixed<S: Sink>(self, sink: &mut S) -> Result<(), Full> {
+        put_behind(sink, 0xcb, self.0.to_be_bytes())
+    }
 }

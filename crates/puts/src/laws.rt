@@ -6,7 +6,7 @@ ghost use Rattle.msgpack.specs.Encodings.{fixed_u8, fixed_u32, fixed_u64, fixed_
 ghost use Rattle.puts.specs.Laws.{Encoded, Shortest, FitsEither, FitsSigned};
 
 // Each written form is an encoding of what it is written for.
-pub fn written_forms_stand() -> u8
+pub fn written_forms_stand()
     ensures integers { Encoded integer FitsEither written_integer }
     ensures texts { Encoded text (λ t. length t < 2 ^ 32) written_text }
     ensures binaries { Encoded binary (λ b. length b < 2 ^ 32) written_binary }
@@ -18,18 +18,14 @@ pub fn written_forms_stand() -> u8
     ensures longs { Encoded (λ n. integer (pos n)) (λ n. n < 2 ^ 64) fixed_u64 }
     ensures signed { Encoded integer FitsSigned fixed_i64 }
     ensures doubles { Encoded float64 (λ b. b < 2 ^ 64) fixed_double }
-{
-    0
-}
+{}
 
 // No encoding is shorter than the written form.
-pub fn shortest_forms_stand() -> u8
+pub fn shortest_forms_stand()
     ensures integers { Shortest integer written_integer }
     ensures texts { Shortest text written_text }
     ensures binaries { Shortest binary written_binary }
     ensures arrays { Shortest array written_array }
     ensures maps { Shortest map written_map }
     ensures booleans { Shortest boolean written_boolean }
-{
-    0
-}
+{}

@@ -1,88 +1,124 @@
-// The lengths of arrays, maps, texts and byte parts, each in its shortest form.
-ghost use Rattle.std.specs.Prelude.{◌≡◌, length};
-ghost use Rattle.sinks.specs.Sinks.{Put};
-ghost use Rattle.msgpack.specs.Encodings.{first_form, text_forms, binary_forms, written_array, written_map};
+// Lengths of texts, byte parts, arrays and maps, each in its shortest form.
+ghost use Rattle.std.specs.Prelude.{◌≡◌, ◌≤◌, List, length};
+ghost use Rattle.sinks.specs.Puttings.{Puts};
+ghost use Rattle.msgpack.specs.Encodings.{Form, first_form, text_forms, binary_forms, array_forms, map_forms};
+ghost use Rattle.puts.specs.Lengths.{forms_of};
 
-use crate::behind::{put_four, put_two};
+use crate::behind::put_behind;
+use crate::first::{FirstBytes, Near};
 use sinks::sink::{Full, Sink};
 
-pub fn put_array_len<S: Sink>(sink: &mut S, n: u32) -> Result<(), Full>
-    ensures { Put S.moved (written_array n) (S.state sink.old) (S.state sink.new) result }
-{
-    if n < 0x10 {
-        return sink.put(&[0x90 + n as u8]);
-    }
-    if n < 0x1_0000 {
-        return put_two(sink, 0xdc, n as u16);
-    }
-    put_four(sink, 0xdd, n)
+// What a length is the length of.
+pub trait Length {
+    ghost forms: { List Form };
+
+    fn first_bytes() -> FirstBytes
+        ensures { forms_of result ≡ forms };
 }
 
-pub fn put_map_len<S: Sink>(sink: &mut S, n: u32) -> Result<(), Full>
-    ensures { Put S.moved (written_map n) (S.state sink.old) (S.state sink.new) result }
-{
-    if n < 0x10 {
-        return sink.put(&[0x80 + n as u8]);
+// A text, by its bytes.
+pub struct Text;
+
+impl Length for Text {
+    ghost forms = { text_forms };
+
+    fn first_bytes() -> FirstBytes {
+        FirstBytes {
+            near: Some(Near {
+                limit: 0x20,
+                base: 0xa0,
+            }),
+            one: Some(0xd9),
+            two: 0xda,
+            four: 0xdb,
+        }
     }
-    if n < 0x1_0000 {
-        return put_two(sink, 0xde, n as u16);
-    }
-    put_four(sink, 0xdf, n)
 }
 
-// Of a text, in bytes.
-pub fn put_text_len<S: Sink>(sink: &mut S, n: u32) -> Result<(), Full>
-    ensures { Put S.moved (first_form text_forms n) (S.state sink.old) (S.state sink.new) result }
-{
-    if n < 0x20 {
-        return sink.put(&[0xa0 + n as u8]);
+// A byte part.
+pub struct Binary;
+
+impl Length for Binary {
+    ghost forms = { binary_forms };
+
+    fn first_bytes() -> FirstBytes {
+        FirstBytes {
+            near: None,
+            one: Some(0xc4),
+            two: 0xc5,
+            four: 0xc6,
+        }
     }
-    if n < 0x100 {
-        return sink.put(&[0xd9, n as u8]);
-    }
-    if n < 0x1_0000 {
-        return put_two(sink, 0xda, n as u16);
-    }
-    put_four(sink, 0xdb, n)
 }
 
-// How many bytes the length of a text takes.
-pub fn text_head(len: u32) -> usize
-    ensures { result ≡ length (first_form text_forms len) }
-{
-    if len < 0x20 {
-        return 1;
+// An array, by its items.
+pub struct Array;
+
+impl Length for Array {
+    ghost forms = { array_forms };
+
+    fn first_bytes() -> FirstBytes {
+        FirstBytes {
+            near: Some(Near {
+                limit: 0x10,
+                base: 0x90,
+            }),
+            one: None,
+            two: 0xdc,
+            four: 0xdd,
+        }
     }
-    if len < 0x100 {
-        return 2;
-    }
-    if len < 0x1_0000 {
-        return 3;
-    }
-    5
 }
 
-pub fn put_binary_len<S: Sink>(sink: &mut S, n: u32) -> Result<(), Full>
-    ensures { Put S.moved (first_form binary_forms n) (S.state sink.old) (S.state sink.new) result }
-{
-    if n < 0x100 {
-        return sink.put(&[0xc4, n as u8]);
+// A map, by its pairs.
+pub struct Map;
+
+impl Length for Map {
+    ghost forms = { map_forms };
+
+    fn first_bytes() -> FirstBytes {
+        FirstBytes {
+            near: Some(Near {
+                limit: 0x10,
+                base: 0x80,
+            }),
+            one: None,
+            two: 0xde,
+            four: 0xdf,
+        }
     }
-    if n < 0x1_0000 {
-        return put_two(sink, 0xc5, n as u16);
-    }
-    put_four(sink, 0xc6, n)
 }
 
-// How many bytes the length of a byte part takes.
-pub fn binary_head(len: u32) -> usize
-    ensures { result ≡ length (first_form binary_forms len) }
+pub fn put_len<L: Length, S: Sink>(sink: &mut S, n: u32) -> Result<(), Full>
+    ensures { Puts S.Sink (first_form L.forms n) sink.old sink.new result }
 {
-    if len < 0x100 {
-        return 2;
+    let first = L::first_bytes();
+    if let Some(near) = first.near
+        && n < near.limit
+    {
+        return sink.put(&[near.base + n as u8]);
     }
-    if len < 0x1_0000 {
-        return 3;
+    if let Some(one) = first.one
+        && let Ok(n) = u8::try_from(n)
+    {
+        return put_behind(sink, one, n.to_be_bytes());
     }
-    5
+    if let Ok(n) = u16::try_from(n) {
+        return put_behind(sink, first.two, n.to_be_bytes());
+    }
+    put_behind(sink, first.four, n.to_be_bytes())
+}
+
+// How many bytes the length takes.
+pub fn head_len<L: Length>(n: u32) -> usize
+    ensures length { result ≡ length (first_form L.forms n) }
+    ensures bound { result ≤ 5 }
+{
+    let first = L::first_bytes();
+    match (first.near, first.one) {
+        (Some(near), _) if n < near.limit => 1,
+        (_, Some(_)) if n < 0x100 => 2,
+        _ if n < 0x1_0000 => 3,
+        _ => 5,
+    }
 }

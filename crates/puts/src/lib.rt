@@ -2,6 +2,7 @@
 #![tactic(auto)]
 
 mod behind;
+pub mod first;
 pub mod fixed;
 pub mod integer;
 pub mod laws;

@@ -1,31 +1,29 @@
 // Texts and byte parts: a length, and as many bytes.
-ghost use Rattle.std.specs.Prelude.{◌≡◌, ◌^◌, ◌<◌, ◌≤◌, true, length, is_err};
-ghost use Rattle.sinks.specs.Sinks.{Put};
-ghost use Rattle.msgpack.specs.Encodings.{written_text, written_binary};
+ghost use Rattle.std.specs.Prelude.{◌≡◌, ◌++◌, ◌^◌, ◌<◌, ◌≤◌, true, length, is_err};
+ghost use Rattle.sinks.specs.Puttings.{Puts};
+ghost use Rattle.msgpack.specs.Encodings.{first_form};
 
-use crate::length::{binary_head, put_binary_len, put_text_len, text_head};
+use crate::length::{Binary, Length, Text, head_len, put_len};
 use sinks::sink::{Full, Sink};
 
-// A text that does not fit, or that no length of 32 bits tells, is refused and the sink stays as it is.
-pub fn put_text<S: Sink>(sink: &mut S, t: &[u8]) -> Result<(), Full>
-    ensures short { length t.now < 2 ^ 32 → Put S.moved (written_text t.now) (S.state sink.old) (S.state sink.new) result }
-    ensures long { 2 ^ 32 ≤ length t.now → (is_err result ≡ true) × (S.state sink.new ≡ S.state sink.old) }
-{
-    if t.len() > 0xffff_ffff || sink.space() < (text_head(t.len() as u32) + t.len()) as u64 {
-        return Err(Full);
-    }
-    put_text_len(sink, t.len() as u32)?;
-    sink.put(t)
-}
+// What has a content of so many bytes as its length says.
+pub trait Part: Length {}
 
-// Likewise.
-pub fn put_binary<S: Sink>(sink: &mut S, b: &[u8]) -> Result<(), Full>
-    ensures short { length b.now < 2 ^ 32 → Put S.moved (written_binary b.now) (S.state sink.old) (S.state sink.new) result }
-    ensures long { 2 ^ 32 ≤ length b.now → (is_err result ≡ true) × (S.state sink.new ≡ S.state sink.old) }
+impl Part for Text {}
+
+impl Part for Binary {}
+
+// A part that does not fit, or that no length of 32 bits tells, is refused and the sink stays as it is.
+pub fn put_part<P: Part, S: Sink>(sink: &mut S, content: &[u8]) -> Result<(), Full>
+    ensures short { length content.now < 2 ^ 32 → Puts S.Sink (first_form P.forms (length content.now) ++ content.now) sink.old sink.new result }
+    ensures long { 2 ^ 32 ≤ length content.now → (is_err result ≡ true) × (S.state sink.new ≡ S.state sink.old) }
 {
-    if b.len() > 0xffff_ffff || sink.space() < (binary_head(b.len() as u32) + b.len()) as u64 {
+    let Ok(len) = u32::try_from(content.len()) else {
+        return Err(Full);
+    };
+    if sink.space() < (head_len::<P>(len) + content.len()) as u64 {
         return Err(Full);
     }
-    put_binary_len(sink, b.len() as u32)?;
-    sink.put(b)
+    put_len::<P, S>(sink, len)?;
+    sink.put(content)
 }

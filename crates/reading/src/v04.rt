@@ -1,62 +1,109 @@
 // The v04 payload: an array of traces, each an array of spans.
-use crate::receiver::Receiver;
-use crate::span::decode_span;
-use faults::{PayloadFault, RecordFault};
+ghost use Rattle.items.specs.declared.fault.DecodeError.TheVariants.{InvalidFormat as OtherFormat};
+ghost use Rattle.items.specs.declared.head.Kind.TheVariants.{Array as AnArray};
+ghost use Rattle.std.specs.Prelude.{List, length};
+ghost use Rattle.faults.specs.Faults.{counted, in_payload, in_span};
+ghost use Rattle.items.specs.Buffers.{ReadsOn};
+ghost use Rattle.items.specs.Items.{a_length, all_causes};
+ghost use Rattle.items.specs.Reads.{raised};
+ghost use Rattle.trees.specs.Payloads.{a_span, a_trace, traces_of, v04};
+ghost use Rattle.trees.specs.Steps.{tell_span, tell_trace, tell_payload};
+ghost use Rattle.trees.specs.Tellings.{Tells, Loads};
+ghost use Rattle.trees.specs.Tree.{SpanField};
+
+use crate::span::read_span;
+use faults::PayloadFault;
 use items::buffer::Buffer;
 use items::fault::DecodeError;
 use items::head::Kind;
 use items::length::Causes;
+use trees::receiver::Receiver;
+use trees::repeated::{Numbered, read_numbered};
+use trees::step::Step;
+use trees::telling::Telling;
 
-// Reads the count of traces or of spans.
-fn read_count(buf: &mut Buffer<'_>) -> Result<u64, RecordFault> {
-    Ok(buf.read_length(Kind::Array, Causes::all(DecodeError::InvalidFormat))?)
-}
-
-// Reads one span and hands it on.
-fn read_span<R: Receiver>(buf: &mut Buffer<'_>, to: &mut R) -> Result<(), RecordFault> {
-    let span = decode_span(buf)?;
-    to.span(span);
-    Ok(())
-}
-
-// Reads one trace, before which so many were read.
-fn read_trace<R: Receiver>(
-    buf: &mut Buffer<'_>,
-    trace: u64,
-    to: &mut R,
-) -> Result<(), PayloadFault> {
-    match read_count(buf) {
-        Err(fault) => Err(PayloadFault {
-            fault,
+// Reads how many traces or spans follow, behind so many whole traces.
+fn read_count(trace: u64, buf: &mut Buffer<'_>) -> Result<u64, PayloadFault>
+    ensures { ReadsOn (λ n. n) result buf.old buf.new (λ bytes at. raised (λ e. counted trace 0 (in_payload e)) (a_length AnArray (all_causes OtherFormat) bytes at)) }
+{
+    buf.read_length(Kind::Array, Causes::all(DecodeError::InvalidFormat))
+        .map_err(|fault| PayloadFault {
+            fault: fault.into(),
             trace,
             span: 0,
-        }),
-        Ok(count) => {
-            for span in 0..count {
-                if let Err(fault) = read_span(buf, to) {
-                    return Err(PayloadFault { fault, trace, span });
-                }
-            }
-            to.trace();
-            Ok(())
-        }
+        })
+}
+
+// The spans of a trace, before which so many whole traces were read.
+#[derive(Clone, Copy)]
+struct Spans {
+    trace: u64,
+}
+
+impl Numbered for Spans {
+    type Fault = PayloadFault;
+
+    ghost Tree = { List SpanField };
+
+    ghost one = { λ s n bytes at. raised (λ e. counted s.trace n (in_span e)) (a_span bytes at) };
+
+    ghost tell = { λ _ act. tell_span act };
+
+    fn read<R: Receiver>(
+        &self,
+        number: u64,
+        from: &mut Telling<'_, '_, R>,
+    ) -> Result<(), PayloadFault> {
+        read_span(from).map_err(|fault| PayloadFault {
+            fault: fault.into(),
+            trace: self.trace,
+            span: number,
+        })
     }
 }
 
-// Reads a payload from the start of the window; answers the number of traces, and of the bytes read.
-pub fn from_slice<R: Receiver>(window: &[u8], to: &mut R) -> Result<(u64, usize), PayloadFault> {
-    let mut buf = Buffer::new(window);
-    match read_count(&mut buf) {
-        Err(fault) => Err(PayloadFault {
-            fault,
-            trace: 0,
-            span: 0,
-        }),
-        Ok(count) => {
-            for trace in 0..count {
-                read_trace(&mut buf, trace, to)?;
-            }
-            Ok((count, buf.place()))
-        }
+// The traces of a payload.
+#[derive(Clone, Copy)]
+struct Traces;
+
+impl Numbered for Traces {
+    type Fault = PayloadFault;
+
+    ghost Tree = { List (List SpanField) };
+
+    ghost one = { λ _. a_trace a_span };
+
+    ghost tell = { λ _ act. tell_trace act };
+
+    fn read<R: Receiver>(
+        &self,
+        number: u64,
+        from: &mut Telling<'_, '_, R>,
+    ) -> Result<(), PayloadFault> {
+        let count = read_count(number, &mut from.buf)?;
+        read_numbered(&Spans { trace: number }, count, from)?;
+        from.take(Step::EndTrace);
+        Ok(())
     }
+}
+
+// Reads the traces of a payload and tells them; answers how many there are.
+fn read_traces<R: Receiver>(from: &mut Telling<'_, '_, R>) -> Result<u64, PayloadFault>
+    ensures { Tells R.Receiver tell_payload length result from.old from.new (traces_of a_span) }
+{
+    let count = read_count(0, &mut from.buf)?;
+    read_numbered(&Traces, count, from)?;
+    Ok(count)
+}
+
+// Reads a payload from the start of the window and tells it; answers the number of traces, and of the bytes read.
+pub fn read_payload<'a, 'r, R: Receiver>(
+    window: &'a [u8],
+    to: &'r mut R,
+) -> Result<(u64, usize), PayloadFault>
+    ensures { Loads R.Receiver window.now result to.old to.new (v04 window.now) }
+{
+    let mut from = Telling::new(Buffer::new(window), to);
+    let count = read_traces(&mut from)?;
+    Ok((count, from.buf.pos))
 }

@@ -1,119 +1,116 @@
 // Events, with their attributes.
-ghost use Rattle.std.specs.Prelude.{◌≡◌};
-ghost use Rattle.items.specs.Reads.{Takes, nothing, times, fold};
+ghost use Rattle.std.specs.Prelude.{List};
+ghost use Rattle.items.specs.Reads.{nothing};
 ghost use Rattle.trees.specs.Records.{an_attribute, attributes_map, event_field_by, an_event_field, an_event};
 ghost use Rattle.trees.specs.Steps.{tell_attribute, tell_attributes, tell_event_field, tell_event};
+ghost use Rattle.trees.specs.Tellings.{Tells};
+ghost use Rattle.trees.specs.Tree.{Attribute, EventField};
 
 use attributes::attribute::read_attribute;
 use faults::EventFault;
-use items::buffer::Buffer;
 use items::fault::DecodeError;
 use items::head::Kind;
 use items::length::Causes;
 use maps::key::read_key;
 use names::keys::SpanEventKey;
 use trees::receiver::Receiver;
-use trees::step::{Mark, Step};
+use trees::repeated::{Repeated, read_times};
+use trees::step::Step;
+use trees::telling::Telling;
 
-// Reads a key and its attribute.
-fn read_pair<R: Receiver>(buf: &mut Buffer<'_>, to: &mut R) -> Result<(), EventFault>
-    ensures takes { Takes (tell_attribute (R.Receiver.act buf.old.window.now)) nothing (R.Receiver.state to.old) (R.Receiver.state to.new) result buf.new.pos (an_attribute buf.old.window.now buf.old.pos) }
-    ensures window { buf.new.window ≡ buf.old.window }
-{
-    let key = buf.read_text()?;
-    read_attribute(buf, key, to)?;
-    Ok(())
-}
+// The attributes of an event, each under its key.
+#[derive(Clone, Copy)]
+pub struct Attributes;
 
-// Reads so many attributes.
-fn read_pairs<R: Receiver>(buf: &mut Buffer<'_>, count: u64, to: &mut R) -> Result<(), EventFault>
-    ensures takes { Takes (fold (tell_attribute (R.Receiver.act buf.old.window.now))) nothing (R.Receiver.state to.old) (R.Receiver.state to.new) result buf.new.pos (times count (an_attribute buf.old.window.now) buf.old.pos) }
-    ensures window { buf.new.window ≡ buf.old.window }
-{
-    for _ in 0..count {
-        read_pair(buf, to)?;
+impl Repeated for Attributes {
+    type Fault = EventFault;
+
+    ghost Tree = { Attribute };
+
+    ghost one = { λ _. an_attribute };
+
+    ghost tell = { λ _ act. tell_attribute act };
+
+    fn read<R: Receiver>(&self, from: &mut Telling<'_, '_, R>) -> Result<(), EventFault> {
+        let key = from.buf.read_text()?;
+        read_attribute(key, from)?;
+        Ok(())
     }
-    Ok(())
 }
 
 // Reads the map of attributes.
-fn read_attributes<R: Receiver>(buf: &mut Buffer<'_>, to: &mut R) -> Result<(), EventFault>
-    ensures takes { Takes (tell_attributes (R.Receiver.act buf.old.window.now)) nothing (R.Receiver.state to.old) (R.Receiver.state to.new) result buf.new.pos (attributes_map buf.old.window.now buf.old.pos) }
-    ensures window { buf.new.window ≡ buf.old.window }
+fn read_attributes<R: Receiver>(from: &mut Telling<'_, '_, R>) -> Result<(), EventFault>
+    ensures { Tells R.Receiver tell_attributes nothing result from.old from.new attributes_map }
 {
-    let count = buf.read_length(Kind::Map, Causes::all(DecodeError::InvalidType))?;
-    to.mark(buf.window, Mark::BeginAttributes);
-    read_pairs(buf, count, to)?;
-    Ok(())
+    let count = from
+        .buf
+        .read_length(Kind::Map, Causes::all(DecodeError::InvalidType))?;
+    from.take(Step::BeginAttributes);
+    read_times(&Attributes, count, from)
 }
 
 // Reads a field by its name.
 fn read_by_key<R: Receiver>(
-    buf: &mut Buffer<'_>,
     key: SpanEventKey,
-    to: &mut R,
+    from: &mut Telling<'_, '_, R>,
 ) -> Result<(), EventFault>
-    ensures takes { Takes (tell_event_field (R.Receiver.act buf.old.window.now)) nothing (R.Receiver.state to.old) (R.Receiver.state to.new) result buf.new.pos (event_field_by key buf.old.window.now buf.old.pos) }
-    ensures window { buf.new.window ≡ buf.old.window }
+    ensures { Tells R.Receiver tell_event_field nothing result from.old from.new (event_field_by key) }
 {
     match key {
         SpanEventKey::TimeUnixNano => {
-            let time: u64 = buf.read_integer()?;
-            to.mark(buf.window, Mark::Time(time));
+            let time: u64 = from.buf.read_integer()?;
+            from.take(Step::Time(time));
         }
         SpanEventKey::Name => {
-            let name = buf.read_text()?;
-            to.take(buf.window, Step::EventName(name));
+            let name = from.buf.read_text()?;
+            from.take(Step::EventName(name));
         }
         SpanEventKey::Attributes => {
-            read_attributes(buf, to)?;
+            read_attributes(from)?;
         }
     }
     Ok(())
 }
 
-fn read_field<R: Receiver>(buf: &mut Buffer<'_>, to: &mut R) -> Result<(), EventFault>
-    ensures takes { Takes (tell_event_field (R.Receiver.act buf.old.window.now)) nothing (R.Receiver.state to.old) (R.Receiver.state to.new) result buf.new.pos (an_event_field buf.old.window.now buf.old.pos) }
-    ensures window { buf.new.window ≡ buf.old.window }
-{
-    let key: SpanEventKey = read_key(buf)?;
-    read_by_key(buf, key, to)?;
-    Ok(())
-}
+// The fields of an event.
+#[derive(Clone, Copy)]
+pub struct EventFields;
 
-// Reads so many fields.
-fn read_fields<R: Receiver>(buf: &mut Buffer<'_>, count: u64, to: &mut R) -> Result<(), EventFault>
-    ensures takes { Takes (fold (tell_event_field (R.Receiver.act buf.old.window.now))) nothing (R.Receiver.state to.old) (R.Receiver.state to.new) result buf.new.pos (times count (an_event_field buf.old.window.now) buf.old.pos) }
-    ensures window { buf.new.window ≡ buf.old.window }
-{
-    for _ in 0..count {
-        read_field(buf, to)?;
+impl Repeated for EventFields {
+    type Fault = EventFault;
+
+    ghost Tree = { EventField };
+
+    ghost one = { λ _. an_event_field };
+
+    ghost tell = { λ _ act. tell_event_field act };
+
+    fn read<R: Receiver>(&self, from: &mut Telling<'_, '_, R>) -> Result<(), EventFault> {
+        let key: SpanEventKey = read_key(&mut from.buf)?;
+        read_by_key(key, from)
     }
-    Ok(())
 }
 
-pub fn read_event<R: Receiver>(buf: &mut Buffer<'_>, to: &mut R) -> Result<(), EventFault>
-    ensures takes { Takes (tell_event (R.Receiver.act buf.old.window.now)) nothing (R.Receiver.state to.old) (R.Receiver.state to.new) result buf.new.pos (an_event buf.old.window.now buf.old.pos) }
-    ensures window { buf.new.window ≡ buf.old.window }
-{
-    let count = buf.read_length(Kind::Map, Causes::all(DecodeError::InvalidType))?;
-    to.mark(buf.window, Mark::BeginEvent);
-    read_fields(buf, count, to)?;
-    to.mark(buf.window, Mark::EndEvent);
-    Ok(())
-}
+// The events of a span.
+#[derive(Clone, Copy)]
+pub struct Events;
 
-// Reads so many events.
-pub fn read_events<R: Receiver>(
-    buf: &mut Buffer<'_>,
-    count: u64,
-    to: &mut R,
-) -> Result<(), EventFault>
-    ensures takes { Takes (fold (tell_event (R.Receiver.act buf.old.window.now))) nothing (R.Receiver.state to.old) (R.Receiver.state to.new) result buf.new.pos (times count (an_event buf.old.window.now) buf.old.pos) }
-    ensures window { buf.new.window ≡ buf.old.window }
-{
-    for _ in 0..count {
-        read_event(buf, to)?;
+impl Repeated for Events {
+    type Fault = EventFault;
+
+    ghost Tree = { List EventField };
+
+    ghost one = { λ _. an_event };
+
+    ghost tell = { λ _ act. tell_event act };
+
+    fn read<R: Receiver>(&self, from: &mut Telling<'_, '_, R>) -> Result<(), EventFault> {
+        let count = from
+            .buf
+            .read_length(Kind::Map, Causes::all(DecodeError::InvalidType))?;
+        from.take(Step::BeginEvent);
+        read_times(&EventFields, count, from)?;
+        from.take(Step::EndEvent);
+        Ok(())
     }
-    Ok(())
 }

@@ -1,101 +1,104 @@
 // Links to other spans.
-ghost use Rattle.std.specs.Prelude.{◌≡◌};
-ghost use Rattle.items.specs.Reads.{Takes, nothing, times, fold};
+ghost use Rattle.std.specs.Prelude.{List};
+ghost use Rattle.items.specs.Reads.{nothing};
 ghost use Rattle.trees.specs.Records.{link_field_by, a_link_field, a_link};
 ghost use Rattle.trees.specs.Steps.{tell_link_field, tell_link};
+ghost use Rattle.trees.specs.Tellings.{Tells};
+ghost use Rattle.trees.specs.Tree.{LinkField};
 
 use faults::LinkFault;
-use items::buffer::Buffer;
 use items::fault::{DecodeError, ItemFault};
 use items::head::Kind;
 use items::length::Causes;
 use maps::key::read_key;
-use maps::map::read_map;
+use maps::map::{Pairs, read_map};
 use maps::pairs::TextTexts;
 use names::keys::SpanLinkKey;
 use trees::keys::{LinkIdKey, PairKey};
 use trees::receiver::Receiver;
-use trees::step::{Mark, Step};
+use trees::repeated::{Repeated, read_times};
+use trees::step::Step;
+use trees::telling::Telling;
 
 // Reads a field by its name.
 fn read_by_key<R: Receiver>(
-    buf: &mut Buffer<'_>,
     key: SpanLinkKey,
-    to: &mut R,
+    from: &mut Telling<'_, '_, R>,
 ) -> Result<(), ItemFault>
-    ensures takes { Takes (tell_link_field (R.Receiver.act buf.old.window.now)) nothing (R.Receiver.state to.old) (R.Receiver.state to.new) result buf.new.pos (link_field_by key buf.old.window.now buf.old.pos) }
-    ensures window { buf.new.window ≡ buf.old.window }
+    ensures { Tells R.Receiver tell_link_field nothing result from.old from.new (link_field_by key) }
 {
     match key {
         SpanLinkKey::TraceId => {
-            let id: u64 = buf.read_integer()?;
-            to.mark(buf.window, Mark::LinkId(LinkIdKey::TraceId, id));
+            let id: u64 = from.buf.read_integer()?;
+            from.take(Step::LinkId(LinkIdKey::TraceId, id));
         }
         SpanLinkKey::TraceIdHigh => {
-            let id: u64 = buf.read_integer()?;
-            to.mark(buf.window, Mark::LinkId(LinkIdKey::TraceIdHigh, id));
+            let id: u64 = from.buf.read_integer()?;
+            from.take(Step::LinkId(LinkIdKey::TraceIdHigh, id));
         }
         SpanLinkKey::SpanId => {
-            let id: u64 = buf.read_integer()?;
-            to.mark(buf.window, Mark::LinkId(LinkIdKey::SpanId, id));
+            let id: u64 = from.buf.read_integer()?;
+            from.take(Step::LinkId(LinkIdKey::SpanId, id));
         }
         SpanLinkKey::Attributes => {
-            read_map(buf, &TextTexts, PairKey::LinkAttributes, to)?;
+            let pairs = Pairs {
+                kind: TextTexts,
+                key: PairKey::LinkAttributes,
+            };
+            read_map(&pairs, from)?;
         }
         SpanLinkKey::Tracestate => {
-            let text = buf.read_text()?;
-            to.take(buf.window, Step::Tracestate(text));
+            let text = from.buf.read_text()?;
+            from.take(Step::Tracestate(text));
         }
         SpanLinkKey::Flags => {
-            let flags: u32 = buf.read_integer()?;
-            to.mark(buf.window, Mark::Flags(flags));
+            let flags: u32 = from.buf.read_integer()?;
+            from.take(Step::Flags(flags));
         }
     }
     Ok(())
 }
 
-fn read_field<R: Receiver>(buf: &mut Buffer<'_>, to: &mut R) -> Result<(), LinkFault>
-    ensures takes { Takes (tell_link_field (R.Receiver.act buf.old.window.now)) nothing (R.Receiver.state to.old) (R.Receiver.state to.new) result buf.new.pos (a_link_field buf.old.window.now buf.old.pos) }
-    ensures window { buf.new.window ≡ buf.old.window }
-{
-    let key: SpanLinkKey = read_key(buf)?;
-    read_by_key(buf, key, to)?;
-    Ok(())
-}
+// The fields of a link.
+#[derive(Clone, Copy)]
+pub struct LinkFields;
 
-// Reads so many fields.
-fn read_fields<R: Receiver>(buf: &mut Buffer<'_>, count: u64, to: &mut R) -> Result<(), LinkFault>
-    ensures takes { Takes (fold (tell_link_field (R.Receiver.act buf.old.window.now))) nothing (R.Receiver.state to.old) (R.Receiver.state to.new) result buf.new.pos (times count (a_link_field buf.old.window.now) buf.old.pos) }
-    ensures window { buf.new.window ≡ buf.old.window }
-{
-    for _ in 0..count {
-        read_field(buf, to)?;
+impl Repeated for LinkFields {
+    type Fault = LinkFault;
+
+    ghost Tree = { LinkField };
+
+    ghost one = { λ _. a_link_field };
+
+    ghost tell = { λ _ act. tell_link_field act };
+
+    fn read<R: Receiver>(&self, from: &mut Telling<'_, '_, R>) -> Result<(), LinkFault> {
+        let key: SpanLinkKey = read_key(&mut from.buf)?;
+        read_by_key(key, from)?;
+        Ok(())
     }
-    Ok(())
 }
 
-pub fn read_link<R: Receiver>(buf: &mut Buffer<'_>, to: &mut R) -> Result<(), LinkFault>
-    ensures takes { Takes (tell_link (R.Receiver.act buf.old.window.now)) nothing (R.Receiver.state to.old) (R.Receiver.state to.new) result buf.new.pos (a_link buf.old.window.now buf.old.pos) }
-    ensures window { buf.new.window ≡ buf.old.window }
-{
-    let count = buf.read_length(Kind::Map, Causes::all(DecodeError::InvalidType))?;
-    to.mark(buf.window, Mark::BeginLink);
-    read_fields(buf, count, to)?;
-    to.mark(buf.window, Mark::EndLink);
-    Ok(())
-}
+// The links of a span.
+#[derive(Clone, Copy)]
+pub struct Links;
 
-// Reads so many links.
-pub fn read_links<R: Receiver>(
-    buf: &mut Buffer<'_>,
-    count: u64,
-    to: &mut R,
-) -> Result<(), LinkFault>
-    ensures takes { Takes (fold (tell_link (R.Receiver.act buf.old.window.now))) nothing (R.Receiver.state to.old) (R.Receiver.state to.new) result buf.new.pos (times count (a_link buf.old.window.now) buf.old.pos) }
-    ensures window { buf.new.window ≡ buf.old.window }
-{
-    for _ in 0..count {
-        read_link(buf, to)?;
+impl Repeated for Links {
+    type Fault = LinkFault;
+
+    ghost Tree = { List LinkField };
+
+    ghost one = { λ _. a_link };
+
+    ghost tell = { λ _ act. tell_link act };
+
+    fn read<R: Receiver>(&self, from: &mut Telling<'_, '_, R>) -> Result<(), LinkFault> {
+        let count = from
+            .buf
+            .read_length(Kind::Map, Causes::all(DecodeError::InvalidType))?;
+        from.take(Step::BeginLink);
+        read_times(&LinkFields, count, from)?;
+        from.take(Step::EndLink);
+        Ok(())
     }
-    Ok(())
 }

@@ -1,23 +1,19 @@
 -- A sink that moves by one run and then by another. Assumes nothing.
-use Rattle.std.proofs.Common.{◌≡◌, ℕ, ◌+◌, ◌<◌, ◌≤◌, true, List, [], ◌∷◌, ◌++◌, map, length, get_or, take, drop, is_err, Ok, Err, Result, sym, refl, ap, ◌∙◌, append_assoc, append-nil, add-zero, arith, length-append, take-append-drop, take_all}
+use Rattle.std.proofs.Common.{◌≡◌, ℕ, ◌+◌, ◌<◌, ◌≤◌, true, List, [], ◌∷◌, ◌++◌, map, length, get_or, take, drop, is_err, Ok, Err, Result, sym, refl, ap, ◌∙◌, append-nil, add-zero, arith, length-append, take-append-drop, take_all}
 use Rattle.std.specs.List.{flat_map}
 use Rattle.std.proofs.lemmas.List.{take_more}
+use Rattle.std.proofs.lemmas.List.Concat.{flat_map-append}
 use Rattle.sinks.specs.Sinks.{State, Laws, Moves, Over, Sent}
 
 -- runs of a list's items, joined
-pub joined_push : {X A : Type 0} (f : X → List A) (xs ys : List X) → flat_map f (xs ++ ys) ≡ flat_map f xs ++ flat_map f ys
-joined_push f [] ys = refl
-joined_push f (x ∷ xs) ys =
-    ap (λ l. f x ++ l) (joined_push f xs ys) ∙ sym (append_assoc (f x) (flat_map f xs) (flat_map f ys))
-
 pub joined_more : {X A : Type 0} (f : X → List A) (xs : List X) (i : ℕ) (d : X) → i < length xs → flat_map f (take (i + 1) xs) ≡ flat_map f (take i xs) ++ f (get_or xs i d)
 joined_more f xs i d h =
-    ap (flat_map f) (take_more xs i d h) ∙ joined_push f (take i xs) (get_or xs i d ∷ []) ∙ ap (λ l. flat_map f (take i xs) ++ l) (append-nil (f (get_or xs i d)))
+    ap (flat_map f) (take_more xs i d h) ∙ flat_map-append f (take i xs) (get_or xs i d ∷ []) ∙ ap (λ l. flat_map f (take i xs) ++ l) (append-nil (f (get_or xs i d)))
 
 pub joined_front : {X A : Type 0} (f : X → List A) (xs : List X) (i : ℕ) → length (flat_map f (take i xs)) ≤ length (flat_map f xs)
 joined_front f xs i =
     let e = ap (λ l. length (flat_map f l)) (take-append-drop i xs) in
-    let m = ap length (joined_push f (take i xs) (drop i xs)) in
+    let m = ap length (flat_map-append f (take i xs) (drop i xs)) in
     omega (arith, e, m, length-append (flat_map f (take i xs)) (flat_map f (drop i xs)))
 
 pub joined_map : {X Y A : Type 0} (f : Y → List A) (g : X → Y) (xs : List X) → flat_map f (map g xs) ≡ flat_map (λ x. f (g x)) xs

@@ -1,3 +1,4 @@
 pub mod Counts
+pub mod Puttings
 pub mod Sinks
 pub mod Slices

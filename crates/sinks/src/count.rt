@@ -18,14 +18,12 @@ impl Sink for CountLength {
     ghost laws = { counted_laws };
 
     fn space(&self) -> u64 {
-        (u32::MAX - self.0) as u64
+        u64::from(u32::MAX - self.0)
     }
 
     fn put(&mut self, run: &[u8]) -> Result<(), Full> {
-        if run.len() > (u32::MAX - self.0) as usize {
-            return Err(Full);
-        }
-        self.0 += run.len() as u32;
+        let len = u32::try_from(run.len()).map_err(|_| Full)?;
+        self.0 = self.0.checked_add(len).ok_or(Full)?;
         Ok(())
     }
 }

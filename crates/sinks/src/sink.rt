@@ -2,12 +2,15 @@
 ghost use Rattle.std.specs.Prelude.{◌≡◌, ℕ, List};
 ghost use Rattle.sinks.specs.Sinks.{State, Laws, Put, full_number};
 
+use thiserror::Error;
+
 // A run does not fit.
-#[derive(Clone, Copy)]
+#[derive(Clone, Copy, Debug, PartialEq, Eq, Error)]
+#[error("full")]
 pub struct Full;
 
 impl Full {
-    // The number by which this refusal is known.
+    // The number by which documents know this refusal: a rule of the project, since all refusals share one table of numbers.
     pub fn number(self) -> u8
         ensures { result ≡ full_number }
     {

@@ -1,29 +1,30 @@
 // A sink over memory that the user lends.
-ghost use Rattle.std.specs.Prelude.{◌≡◌, ◌<◌, ◌++◌, length, drop, MatchResult};
+ghost use Rattle.std.specs.Prelude.{◌≡◌, ◌<◌, ◌≤◌, ◌++◌, length, drop, MatchResult};
 ghost use Rattle.sinks.specs.Slices.{Written, wrote, wrote_laws, slice_state, started};
 
 use crate::sink::{Full, Sink};
 
-// The first `at` bytes are written.
+// The first `at` bytes are written. A rule of the project: the memory is lent by the user, and its written length stands beside it.
 #[derive(Drop)]
 pub struct SliceSink<'a> {
     out: &'a mut [u8],
     at: usize,
+    ghost within: { at ≤ length out.now },
 }
 
 impl<'a> SliceSink<'a> {
     // A sink that writes from the memory's start on.
     pub fn new(out: &'a mut [u8]) -> SliceSink<'a>
-        ensures { slice_state result.out.ghost_name result.at result.out.now ≡ started out.entry.ghost_name out.old }
+        ensures { ⟦<SliceSink<'a> as Sink>⟧.state result ≡ started out.entry.ghost_name out.old }
     {
         SliceSink { out, at: 0 }
     }
 
     // How many bytes are written.
     pub fn written(&self) -> usize
-        ensures { result ≡ length (slice_state self.now.out.ghost_name self.now.at self.now.out.now).meaning.front }
+        ensures { result ≡ length (⟦<SliceSink<'a> as Sink>⟧.state self.now).meaning.front }
     {
-        self.at.min(self.out.len())
+        self.at
     }
 }
 
@@ -37,16 +38,15 @@ impl<'a> Sink for SliceSink<'a> {
     ghost laws = { wrote_laws };
 
     fn space(&self) -> u64 {
-        self.out.len().saturating_sub(self.at) as u64
+        (self.out.len() - self.at) as u64
     }
 
     fn put(&mut self, run: &[u8]) -> Result<(), Full> {
-        let at = self.at.min(self.out.len());
-        if run.len() > self.out.len() - at {
+        if run.len() > self.out.len() - self.at {
             return Err(Full);
         }
-        let end = at + run.len();
-        self.out[at..end].copy_from_slice(run);
+        let end = self.at + run.len();
+        self.out[self.at..end].copy_from_slice(run);
         self.at = end;
         Ok(())
     }

@@ -1,7 +1,7 @@
 // Gathers the numbers of the spans of a payload.
 use crate::refusal::Refusal;
 use listing::row::SpanRow;
-use reading::receiver::{Receiver, Span};
+use reading::rows::RowReceiver;
 use std::alloc::{AllocError, Global};
 
 // How many traces and spans are gathered at most.
@@ -9,60 +9,51 @@ pub const MAX_TRACES: usize = 64;
 
 pub const MAX_SPANS: usize = 512;
 
+// Two tables of a fixed size, made at set up: so a reading takes no memory, and a trace is no vector of its own.
 #[derive(Drop)]
 pub struct Gatherer {
     pub rows: Vec<SpanRow>,
-    // for each trace, how many rows there are up to its end
-    pub ends: Vec<usize>,
-    // how many there were of each, stored or not
-    spans: u64,
-    traces: u64,
-}
-
-fn row_of(span: Span) -> SpanRow {
-    SpanRow {
-        trace_id: span.trace_id,
-        span_id: span.span_id,
-        parent_id: span.parent_id,
-        start: span.start,
-        duration: span.duration,
-        error: span.error,
-    }
+    // 0, and for each trace how many rows there are up to its end
+    pub bounds: Vec<usize>,
+    // whether there was more than is gathered
+    full: bool,
 }
 
 impl Gatherer {
     pub fn new(heap: Global) -> Result<Gatherer, AllocError> {
         let rows = Vec::with_capacity(heap, MAX_SPANS)?;
-        let ends = Vec::with_capacity(heap, MAX_TRACES)?;
+        let mut bounds = Vec::with_capacity(heap, MAX_TRACES + 1)?;
+        bounds.push_reserved(0);
         Ok(Gatherer {
             rows,
-            ends,
-            spans: 0,
-            traces: 0,
+            bounds,
+            full: false,
         })
     }
 
     // Refuses where there was more than is gathered at most.
     pub fn check_room(&self) -> Result<(), Refusal> {
-        if self.spans > MAX_SPANS as u64 || self.traces > MAX_TRACES as u64 {
+        if self.full {
             return Err(Refusal::Shortage);
         }
         Ok(())
     }
 }
 
-impl Receiver for Gatherer {
-    fn span(&mut self, span: Span) {
-        self.spans = self.spans.saturating_add(1);
+impl RowReceiver for Gatherer {
+    fn span(&mut self, row: SpanRow) {
         if self.rows.len() < self.rows.capacity() {
-            self.rows.push_reserved(row_of(span));
+            self.rows.push_reserved(row);
+        } else {
+            self.full = true;
         }
     }
 
     fn trace(&mut self) {
-        self.traces = self.traces.saturating_add(1);
-        if self.ends.len() < self.ends.capacity() {
-            self.ends.push_reserved(self.rows.len());
+        if self.bounds.len() < self.bounds.capacity() {
+            self.bounds.push_reserved(self.rows.len());
+        } else {
+            self.full = true;
         }
     }
 }

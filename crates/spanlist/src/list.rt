@@ -4,7 +4,7 @@ use crate::line::Line;
 use crate::refusal::Refusal;
 use listing::parents::list_parents;
 use listing::row::SpanRow;
-use reading::v04::from_slice;
+use reading::rows::from_slice;
 use std::alloc::Global;
 
 // The most bytes that a payload to be listed may have.
@@ -18,27 +18,24 @@ fn list_trace(
     lines: &mut Vec<Line>,
 ) -> Result<(), Refusal> {
     let parents = list_parents(heap, rows)?;
-    for (span, row) in rows.iter().enumerate() {
-        let parent = parents.get(span).copied().flatten();
+    for (span, (row, parent)) in rows.iter().zip(parents.iter()).enumerate() {
         lines.push(Line {
             trace,
             span,
             row: *row,
-            parent,
+            parent: *parent,
         })?;
     }
     Ok(())
 }
 
-// The lines of all traces, of which each ends where `ends` says.
-fn list_traces(heap: Global, rows: &[SpanRow], ends: &[usize]) -> Result<Vec<Line>, Refusal> {
+// The lines of all traces, each of which lies between two bounds.
+fn list_traces(heap: Global, rows: &[SpanRow], bounds: &[usize]) -> Result<Vec<Line>, Refusal> {
     let mut lines = Vec::new(heap);
-    let mut start = 0;
-    for (trace, end) in ends.iter().enumerate() {
-        if start <= *end && *end <= rows.len() {
-            list_trace(heap, trace, &rows[start..*end], &mut lines)?;
+    for (trace, ends) in bounds.windows(2).enumerate() {
+        if let Some(rows) = rows.get(ends[0]..ends[1]) {
+            list_trace(heap, trace, rows, &mut lines)?;
         }
-        start = *end;
     }
     Ok(lines)
 }
@@ -51,5 +48,5 @@ pub fn list_payload(heap: Global, payload: &[u8]) -> Result<Vec<Line>, Refusal> 
     let mut gatherer = Gatherer::new(heap)?;
     from_slice(payload, &mut gatherer)?;
     gatherer.check_room()?;
-    list_traces(heap, gatherer.rows.as_slice(), gatherer.ends.as_slice())
+    list_traces(heap, gatherer.rows.as_slice(), gatherer.bounds.as_slice())
 }

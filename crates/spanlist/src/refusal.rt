@@ -6,7 +6,7 @@ ghost use Rattle.spanlist.specs.Refusals.{refusal_number};
 use faults::PayloadFault;
 use std::alloc::{AllocError, AllocFailed};
 
-#[derive(Clone, Copy)]
+#[derive(Clone, Copy, Debug, PartialEq, Eq)]
 pub enum Refusal {
     // the reading's first fault
     Fault(PayloadFault),

@@ -4,8 +4,6 @@
 ghost use Rattle.traces.specs.Examples.{MeaningExamples};
 
 // Payloads and what they mean.
-pub fn meaning_examples_stand() -> u8
+pub fn meaning_examples_stand()
     ensures { MeaningExamples }
-{
-    0
-}
+{}

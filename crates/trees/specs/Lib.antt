@@ -1,4 +1,5 @@
 pub mod Payloads
 pub mod Records
 pub mod Steps
+pub mod Tellings
 pub mod Tree

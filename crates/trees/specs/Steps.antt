@@ -1,17 +1,21 @@
 -- How a tree is told, step by step, to what receives it. Assumes nothing.
 use Rattle.std.specs.Prelude.{ℕ, List, ℤ, pos, Some, None, Option}
+use Rattle.std.specs.Option.{option_map}
 use Rattle.items.specs.Items.{Piece}
 use Rattle.items.specs.Parts.{Shown, shown, piece_of}
 use Rattle.items.specs.Reads.{fold}
 use Rattle.trees.specs.declared.keys.TextKey.{TextKey}
 use Rattle.trees.specs.declared.keys.IdKey.{IdKey}
 use Rattle.trees.specs.declared.keys.SignedKey.{SignedKey}
+use Rattle.trees.specs.declared.keys.SignedKey.TheVariants as signed_key
+use Rattle.trees.specs.declared.keys.TimeKey.{TimeKey}
+use Rattle.trees.specs.declared.keys.TimeKey.TheVariants as time_key
 use Rattle.trees.specs.declared.keys.PairKey.{PairKey}
 use Rattle.trees.specs.declared.keys.LinkIdKey.{LinkIdKey}
 use Rattle.trees.specs.declared.step.Step.{Step}
 use Rattle.trees.specs.declared.step.Step.TheVariants as step
-use Rattle.trees.specs.declared.step.Mark.{Mark}
-use Rattle.trees.specs.declared.step.Mark.TheVariants as mark
+use Rattle.trees.specs.declared.step.ValueType.{ValueType}
+use Rattle.trees.specs.declared.step.ValueType.TheVariants as value_type
 use Rattle.trees.specs.declared.keys.PairKey.TheVariants.{LinkAttributes}
 use Rattle.trees.specs.Tree.{type_number, Single, string, truth, whole, double, ElementField, given, value, Element, element, AttributeField, plain, array, Attribute, attribute, Pair, pair, LinkField, link_id, link_attributes, tracestate, flags, EventField, time, event_name, event_attributes, SpanField, text, id, signed, pairs, links, events, Payload, Indexed}
 
@@ -42,38 +46,49 @@ pub data On : Type 0 where
   end_span : On
   end_trace : On
 
+-- the number of a value's type
+abbrev pub type_code : ValueType → ℕ
+type_code value_type.String = 0
+type_code value_type.Boolean = 1
+type_code value_type.Integer = 2
+type_code value_type.Double = 3
+type_code value_type.Array = 4
+
+-- the number with a sign that a time is
+abbrev pub signed_of : TimeKey → SignedKey
+signed_of time_key.Start = signed_key.Start
+signed_of time_key.Duration = signed_key.Duration
+
 -- what a step of the program says
 abbrev pub on_step : Step → On
 on_step (step.Entry p) = entry (piece_of p)
-on_step (step.Text k x) = on_text k (Some (shown x))
+on_step (step.Text k x) = on_text k (option_map shown x)
 on_step (step.Pair k x y) = on_pair k (shown x) (shown y)
 on_step (step.Tracestate p) = on_tracestate (piece_of p)
 on_step (step.EventName p) = on_event_name (piece_of p)
 on_step (step.Attribute p) = on_attribute (piece_of p)
 on_step (step.StringValue p) = on_value (string (piece_of p))
-
-abbrev pub on_mark : Mark → On
-on_mark mark.BeginSpan = begin_span
-on_mark (mark.NoText k) = on_text k None
-on_mark (mark.Id k n) = on_id k (pos n)
-on_mark (mark.Signed k z) = on_signed k z
-on_mark (mark.BeginPairs k) = begin_pairs k
-on_mark mark.BeginLinks = begin_links
-on_mark mark.BeginLink = begin_link
-on_mark (mark.LinkId k n) = on_link_id k (pos n)
-on_mark (mark.Flags n) = on_flags (pos n)
-on_mark mark.EndLink = end_link
-on_mark mark.BeginEvents = begin_events
-on_mark mark.BeginEvent = begin_event
-on_mark (mark.Time n) = on_time (pos n)
-on_mark mark.BeginAttributes = begin_attributes
-on_mark (mark.BooleanValue b) = on_value (truth b)
-on_mark (mark.IntegerValue z) = on_value (whole z)
-on_mark (mark.DoubleValue b) = on_value (double b)
-on_mark (mark.EndAttribute n) = end_attribute n
-on_mark mark.EndEvent = end_event
-on_mark mark.EndSpan = end_span
-on_mark mark.EndTrace = end_trace
+on_step step.BeginSpan = begin_span
+on_step (step.Id k n) = on_id k (pos n)
+on_step (step.Signed k z) = on_signed (signed_of k) z
+on_step (step.Error z) = on_signed signed_key.Error z
+on_step (step.BeginPairs k) = begin_pairs k
+on_step step.BeginLinks = begin_links
+on_step step.BeginLink = begin_link
+on_step (step.LinkId k n) = on_link_id k (pos n)
+on_step (step.Flags n) = on_flags (pos n)
+on_step step.EndLink = end_link
+on_step step.BeginEvents = begin_events
+on_step step.BeginEvent = begin_event
+on_step (step.Time n) = on_time (pos n)
+on_step step.BeginAttributes = begin_attributes
+on_step (step.BooleanValue b) = on_value (truth b)
+on_step (step.IntegerValue z) = on_value (whole z)
+on_step (step.DoubleValue b) = on_value (double b)
+on_step (step.EndAttribute t) = end_attribute (type_code t)
+on_step step.EndEvent = end_event
+on_step step.EndSpan = end_span
+on_step step.EndTrace = end_trace
 
 -- of two fields of one kind the later counts
 abbrev pub later : {A : Type 0} → Option A → Option A → Option A

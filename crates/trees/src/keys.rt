@@ -25,6 +25,13 @@ pub enum SignedKey {
     Error,
 }
 
+// Those of 64 bits.
+#[derive(Clone, Copy)]
+pub enum TimeKey {
+    Start,
+    Duration,
+}
+
 // The maps of pairs: three of a span, and the attributes of a link.
 #[derive(Clone, Copy)]
 pub enum PairKey {

@@ -3,4 +3,6 @@
 
 pub mod keys;
 pub mod receiver;
+pub mod repeated;
 pub mod step;
+pub mod telling;

@@ -1,8 +1,8 @@
 // What takes a reading.
 ghost use Rattle.std.specs.Prelude.{◌≡◌, ℕ, List};
-ghost use Rattle.trees.specs.Steps.{On, on_step, on_mark};
+ghost use Rattle.trees.specs.Steps.{On, on_step};
 
-use crate::step::{Mark, Step};
+use crate::step::Step;
 
 // A receiver is told each step of a reading, with the window that it comes from. It cannot fail.
 pub trait Receiver {
@@ -15,7 +15,4 @@ pub trait Receiver {
 
     fn take(&mut self, window: &[u8], step: Step<'_>)
         ensures { state self.new ≡ act window.now (state self.old) (on_step step.entry) };
-
-    fn mark(&mut self, window: &[u8], mark: Mark)
-        ensures { state self.new ≡ act window.now (state self.old) (on_mark mark) };
 }

@@ -1,15 +1,37 @@
 // The steps of a reading, one for each thing that was read, in the order of the payload.
-use crate::keys::{IdKey, LinkIdKey, PairKey, SignedKey, TextKey};
+ghost use Rattle.std.specs.Prelude.{◌≡◌};
+ghost use Rattle.trees.specs.Steps.{type_code};
+
+use crate::keys::{IdKey, LinkIdKey, PairKey, TextKey, TimeKey};
 use items::item::Item;
 use items::part::Part;
 
-// Steps with texts or byte parts, which borrow the window.
+// The type of an attribute's value, by its number.
+#[derive(Clone, Copy, Debug, PartialEq, Eq)]
+pub enum ValueType {
+    String = 0,
+    Boolean = 1,
+    Integer = 2,
+    Double = 3,
+    Array = 4,
+}
+
+impl ValueType {
+    // The number of the type.
+    pub fn number(self) -> u8
+        ensures { result ≡ type_code self }
+    {
+        self as u8
+    }
+}
+
+// A step. Texts and byte parts borrow the window.
 #[derive(Clone, Copy)]
 pub enum Step<'a> {
     // a text of the dictionary
     Entry(Part<'a>),
-    // a text of the span
-    Text(TextKey, Item<'a>),
+    // a text of the span; none for null
+    Text(TextKey, Option<Item<'a>>),
     // a pair of a map
     Pair(PairKey, Item<'a>, Item<'a>),
     Tracestate(Part<'a>),
@@ -18,16 +40,10 @@ pub enum Step<'a> {
     Attribute(Part<'a>),
     // a text that is an attribute's value, or an element of it
     StringValue(Part<'a>),
-}
-
-// Steps with numbers, and where things begin and end.
-#[derive(Clone, Copy)]
-pub enum Mark {
     BeginSpan,
-    // null for a text of the span
-    NoText(TextKey),
     Id(IdKey, u64),
-    Signed(SignedKey, i64),
+    Signed(TimeKey, i64),
+    Error(i32),
     BeginPairs(PairKey),
     BeginLinks,
     BeginLink,
@@ -42,8 +58,8 @@ pub enum Mark {
     IntegerValue(i64),
     // a double by its 64 bits
     DoubleValue(u64),
-    // an attribute's values are whole; its type number
-    EndAttribute(u8),
+    // an attribute's values are whole; its type
+    EndAttribute(ValueType),
     EndEvent,
     EndSpan,
     EndTrace,

@@ -12,4 +12,5 @@ returns g c =
     record {
       takes = not_null values_of [] (λ bytes. fold (tell_element (g.R.Receiver.act bytes))) nothing _ _ c.read_values.result _ w n.place n.value c.read_values.ensures.takes;
       window = c.read_values.ensures.window ∙ w;
+      lender = c.read_values.ensures.lender;
     }

@@ -6,6 +6,7 @@ use Rattle.listing.proofs.parents.find_parents.Given as goal
 -- the first answers are there, and those from the number of spans on are as before
 abbrev pub invariant-loop-i : goal.invariant-loop-i
 invariant-loop-i l =
-    (take l.i l.parents ≡ map (λ (s : SpanRow). first_with s.parent_id l.spans 0) (take l.i l.spans))
-    × (length l.parents ≡ length l.initial.parents)
-    × (drop (length l.spans) l.parents ≡ drop (length l.spans) l.initial.parents)
+    record {
+      filled : take l.i l.parents ≡ map (λ (s : SpanRow). first_with s.parent_id l.spans) (take l.i l.spans);
+      behind : drop (length l.spans) l.parents ≡ drop (length l.spans) l.initial.parents;
+    }

@@ -1,11 +1,18 @@
-use Rattle.std.proofs.Common.{◌≡◌, ℕ, ◌+◌, ◌≤◌, eqb, length, take, drop}
+use Rattle.std.proofs.Common.{◌≡◌, ℕ, ◌≤◌, length, nat_eq, ◌+◌, ◌++◌, drop}
+use Rattle.std.specs.List.{position_from}
 use Rattle.keyed.specs.Keyed.{value_of}
-use Rattle.listing.specs.Parents.{first_with}
+use Rattle.keyed.specs.Used.{used}
+use Rattle.listing.specs.declared.row.SpanRow.{SpanRow}
 use Rattle.listing.proofs.parents.index_spans.Given as goal
 
--- the spans from i on are in the list
+-- the spans behind the rest are in the list
 abbrev pub invariant-loop-i : goal.invariant-loop-i
 invariant-loop-i l =
-    ((id : ℕ) → value_of eqb id (take l.list.len l.list.entries.now) ≡ first_with id (drop l.i l.spans) l.i)
-    × (l.list.len + l.i ≤ length l.spans)
-    × (length l.spans ≤ length l.list.entries.now)
+    let rest = l.i-iterator.iter.iter.rest.now in
+    record {
+      listed : (id : ℕ) → value_of nat_eq id (used l.list) ≡ position_from (λ (s : SpanRow). nat_eq s.span_id id) (length rest) (drop (length rest) l.spans);
+      whole : l.spans ≡ rest ++ drop (length rest) l.spans;
+      count : l.i-iterator.iter.count ≡ 0;
+      few : l.list.len + length rest ≤ length l.spans;
+      room : length l.spans ≤ length l.list.entries.now;
+    }

@@ -1,22 +1,16 @@
-use Rattle.std.proofs.Common.{◌≡◌, ℕ, ◌%◌, ◌<◌, ◌≤◌, true, false, cond, ltb, sym, ap, ◌∙◌, arith}
+use Rattle.std.proofs.Common.{◌≡◌, ℕ, ◌%◌, ◌<◌, ◌≤◌, cond, sym, ap, ◌∙◌, arith}
 use lib.Ieee.{binary32, binary64, of_bits, to_bits}
 use lib.Ieee.Bits.{nan_bits_above}
-use Rattle.std.proofs.lemmas.Bool.Decides.{nat_tests}
+use Rattle.std.proofs.lemmas.Bool.{lt-ltb, le-ltb}
 use Rattle.msgpack.specs.Doubles.{widened, widened_nan}
 use Rattle.msgpack.proofs.double.single_bits.Goals as goal
 
-above : (n : ℕ) → 2139095040 < n → ltb 2139095040 n ≡ true
-above n h = grind (arith, nat_tests)
-
-upto : (n : ℕ) → n ≤ 2139095040 → ltb 2139095040 n ≡ false
-upto n h = grind (arith, nat_tests)
-
 module _ (b : ℕ) where
   wide_nan : 2139095040 < b % 2147483648 → widened b ≡ widened_nan b
-  wide_nan h = ap (λ t. cond t (widened_nan b) (to_bits binary64 (of_bits binary32 b))) (nan_bits_above binary32 b ∙ above (b % 2147483648) h)
+  wide_nan h = ap (λ t. cond t (widened_nan b) (to_bits binary64 (of_bits binary32 b))) (nan_bits_above binary32 b ∙ lt-ltb 2139095040 (b % 2147483648) h)
 
   wide_value : b % 2147483648 ≤ 2139095040 → widened b ≡ to_bits binary64 (of_bits binary32 b)
-  wide_value h = ap (λ t. cond t (widened_nan b) (to_bits binary64 (of_bits binary32 b))) (nan_bits_above binary32 b ∙ upto (b % 2147483648) h)
+  wide_value h = ap (λ t. cond t (widened_nan b) (to_bits binary64 (of_bits binary32 b))) (nan_bits_above binary32 b ∙ le-ltb 2139095040 (b % 2147483648) h)
 
 pub returns-then-bits-gt2139095040 : goal.returns-then-bits-gt2139095040
 returns-then-bits-gt2139095040 c = c.nan_bits.ensures ∙ sym (wide_nan c.args.bits (omega arith))

@@ -1,9 +1,0 @@
-use Rattle.items.proofs.Turns.{Onward}
-use Rattle.trees.specs.Records.{an_event}
-use Rattle.trees.specs.Steps.{tell_event}
-use Rattle.records.proofs.event.read_events.Given as goal
-
-abbrev pub invariant-loop : goal.invariant-loop
-invariant-loop g l =
-    let r = g.R.Receiver in
-    Onward (λ w _. an_event w.now) (λ w. tell_event (r.act w.now)) l.initial.buf.window l.count (r.state l.initial.to) l.initial.buf.pos l.buf.window l.counter (r.state l.to) l.buf.pos
