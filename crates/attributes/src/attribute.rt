@@ -12,7 +12,6 @@ use crate::judge::{Field, judge};
 use faults::AttributeFault;
 use items::fault::{DecodeError, ItemFault};
 use items::head::Kind;
-use items::length::Causes;
 use items::part::Part;
 use maps::key::{read_fields, read_key};
 use names::keys::{AttributeAnyKey, ValuesKey};
@@ -26,9 +25,7 @@ fn read_values<R: Receiver>(from: &mut Telling<'_, '_, R>) -> Result<(), Attribu
 {
     read_fields(&mut from.buf, 1)?;
     let _values: ValuesKey = read_key(&mut from.buf)?;
-    let count = from
-        .buf
-        .read_length(Kind::Array, Causes::all(DecodeError::InvalidType))?;
+    let count = from.buf.read_count(Kind::Array, DecodeError::InvalidType)?;
     read_elements(count, from)?;
     Ok(())
 }
@@ -67,6 +64,7 @@ fn read_field<R: Receiver>(from: &mut Telling<'_, '_, R>) -> Result<Field, Attri
 }
 
 // Reads the attribute under a key.
+// `read_element` has the same two fields with other keys, faults and judge: one function would take all three as parameters, and is no plainer.
 pub fn read_attribute<R: Receiver>(
     key: Part<'_>,
     from: &mut Telling<'_, '_, R>,
@@ -78,6 +76,7 @@ pub fn read_attribute<R: Receiver>(
     read_fields(&mut from.buf, 2)?;
     let a = read_field(from)?;
     let b = read_field(from)?;
+    // By `match`: with `map_err` a closure stands between judgement and answer, and the proof did not close.
     match judge(a, b) {
         Ok(kind) => {
             from.take(Step::EndAttribute(kind));

@@ -15,7 +15,7 @@ use maps::key::{read_fields, read_key};
 use names::keys::AttributeArrayKey;
 use trees::receiver::Receiver;
 use trees::repeated::{Repeated, read_times};
-use trees::step::{Step, ValueType};
+use trees::step::{AttributeArrayValue, Step, ValueType};
 use trees::telling::Telling;
 
 // Reads a type number or a value, by its name, and tells the value.
@@ -25,32 +25,20 @@ pub fn read_value<R: Receiver>(
 ) -> Result<Field, ItemFault>
     ensures { Tells R.Receiver tell_element_field element_field result from.old from.new (element_field_by key) }
 {
-    match key {
+    let value = match key {
         AttributeArrayKey::Type => {
             let given: u8 = from.buf.read_integer()?;
-            Ok(Field::Given(given))
+            return Ok(Field::Given(given));
         }
-        AttributeArrayKey::StringValue => {
-            let text = from.buf.read_text()?;
-            from.take(Step::StringValue(text));
-            Ok(Field::Valued(ValueType::String))
-        }
-        AttributeArrayKey::BoolValue => {
-            let truth = from.buf.read_boolean(DecodeError::InvalidType)?;
-            from.take(Step::BooleanValue(truth));
-            Ok(Field::Valued(ValueType::Boolean))
-        }
-        AttributeArrayKey::IntValue => {
-            let number: i64 = from.buf.read_integer()?;
-            from.take(Step::IntegerValue(number));
-            Ok(Field::Valued(ValueType::Integer))
-        }
-        AttributeArrayKey::DoubleValue => {
-            let bits = from.buf.read_double()?;
-            from.take(Step::DoubleValue(bits));
-            Ok(Field::Valued(ValueType::Double))
-        }
-    }
+        AttributeArrayKey::StringValue => AttributeArrayValue::String(from.buf.read_text()?),
+        AttributeArrayKey::BoolValue => AttributeArrayValue::Boolean(
+            from.buf.read_boolean(DecodeError::InvalidType)?,
+        ),
+        AttributeArrayKey::IntValue => AttributeArrayValue::Integer(from.buf.read_integer()?),
+        AttributeArrayKey::DoubleValue => AttributeArrayValue::Double(from.buf.read_double()?),
+    };
+    from.take(Step::Value(value));
+    Ok(Field::Valued(value.value_type()))
 }
 
 fn read_element_field<R: Receiver>(from: &mut Telling<'_, '_, R>) -> Result<Field, ItemFault>
@@ -71,6 +59,7 @@ fn read_element<R: Receiver>(
     read_fields(&mut from.buf, 2)?;
     let a = read_element_field(from)?;
     let b = read_element_field(from)?;
+    // By `match`, as in `read_attribute`.
     match judge_element(a, b, first) {
         Ok(kind) => Ok(kind),
         Err(cause) => Err(ArrayValueFault(ItemFault { cause, place })),
@@ -78,7 +67,7 @@ fn read_element<R: Receiver>(
 }
 
 // The elements of an array behind the first, whose type they share.
-#[derive(Clone, Copy)]
+#[derive(Clone, Copy, Debug, PartialEq, Eq)]
 pub struct Elements {
     pub of: ValueType,
 }

@@ -9,6 +9,7 @@ use items::fault::DecodeError;
 use trees::step::ValueType;
 
 // What a field was: a type number, or a value of a type.
+// An enum of its own: neither is an error or a want of the other.
 #[derive(Clone, Copy, Debug, PartialEq, Eq)]
 pub enum Field {
     Given(u8),
@@ -36,6 +37,7 @@ impl Field {
 }
 
 // A value and a type number have to be there, and the number has to be the value's.
+// By `let .. else`, so that each is refused where it is missing: a rule of the project.
 fn agree(value: Option<ValueType>, given: Option<u8>) -> Result<ValueType, DecodeError>
     ensures { coded result ≡ verdict (option_map type_code value) given }
 {

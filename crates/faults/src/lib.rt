@@ -6,7 +6,7 @@ ghost use Rattle.std.specs.Prelude.{◌≡◌};
 ghost use Rattle.faults.specs.declared.AttributeFault.TheVariants.{Own as OwnAttribute, ArrayValue as InArrayValue};
 ghost use Rattle.faults.specs.declared.EventFault.TheVariants.{Own as OwnEvent, Attribute as InAttribute};
 ghost use Rattle.faults.specs.declared.SpanFault.TheVariants.{Own as OwnSpan, Link as InLink, Event as InEvent};
-ghost use Rattle.faults.specs.Faults.{record_number, in_array_value, in_link, as_dictionary, in_dictionary, in_payload, in_span};
+ghost use Rattle.faults.specs.Faults.{record_number, counted, in_array_value, in_link, as_dictionary, in_dictionary, in_payload, in_span};
 
 use items::fault::{DecodeError, ItemFault};
 
@@ -44,6 +44,7 @@ impl From<ItemFault> for ArrayValueFault {
     }
 }
 
+// This, `EventFault` and `SpanFault` have each an `Own` and its `From`: one generic enum would fit the two with one inner record, and its name for that record says less.
 #[derive(Clone, Copy, Debug, PartialEq, Eq)]
 pub enum AttributeFault {
     Own(ItemFault),
@@ -148,6 +149,19 @@ impl From<ItemFault> for DictionaryFault {
 pub struct RecordFault {
     pub record: Record,
     pub item: ItemFault,
+}
+
+impl RecordFault {
+    // With the whole traces read before it, and the whole spans before it in its trace.
+    pub fn counted(self, trace: u64, span: u64) -> PayloadFault
+        ensures { result ≡ counted trace span self }
+    {
+        PayloadFault {
+            fault: self,
+            trace,
+            span,
+        }
+    }
 }
 
 // A fault at the payload's own headers.

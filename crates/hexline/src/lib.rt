@@ -6,27 +6,18 @@ ghost use Rattle.hexline.specs.declared.LineError.TheVariants.{NoDigit, OutOfMem
 ghost use Rattle.hexline.specs.Lines.{digit_of, bytes_in};
 
 use std::alloc::{AllocError, AllocFailed, Global};
-use std::error::Error;
-use std::fmt;
+use thiserror::Error;
 
 // Why a line has no bytes.
-#[derive(Clone, Copy, Debug, PartialEq, Eq)]
+#[derive(Clone, Copy, Debug, PartialEq, Eq, Error)]
 pub enum LineError {
+    #[error("no digit")]
     NoDigit,
+    #[error("{AllocError}")]
     OutOfMemory,
 }
 
-impl fmt::Display for LineError {
-    fn fmt<W: fmt::Write>(&self, f: &mut fmt::Formatter<W>) -> fmt::Result {
-        match self {
-            LineError::NoDigit => write!(f, "no digit"),
-            LineError::OutOfMemory => write!(f, "{AllocError}"),
-        }
-    }
-}
-
-impl Error for LineError {}
-
+// By hand, since one that is derived has no `from_gives`, by which `no_digit` below is proved.
 impl<T: Drop> From<AllocFailed<T>> for LineError {
     ghost from_gives = { λ _ e. e ≡ OutOfMemory };
 
@@ -35,7 +26,7 @@ impl<T: Drop> From<AllocFailed<T>> for LineError {
     }
 }
 
-// The digit that a character stands for.
+// The digit that a character stands for. Not the kit's `hex`: that takes A to F too, and refuses a last digit alone.
 fn digit(b: u8) -> Result<u8, LineError>
     ensures { MatchResult result (λ d. (digit_of b ≡ Some d) × (d < 16)) (λ e. (digit_of b ≡ None) × (e ≡ NoDigit)) }
 {
@@ -53,6 +44,7 @@ pub fn bytes_of(alloc: Global, line: &str) -> Result<Vec<u8>, LineError>
 {
     let mut bytes = Vec::new(alloc);
     let mut rest = line.as_bytes();
+    // Tried: a `for` over `as_chunks::<2>()`. With its invariant four goals on where a chunk stands in the line are left, which did not close; here one is.
     while let [high, low, more @ ..] = rest {
         bytes.push(digit(*high)? * 16 + digit(*low)?)?;
         rest = more;

@@ -64,16 +64,9 @@ module _ {E A : Type 0} (p : ℕ → Outcome E A) where
   more (got x at) a b e = ap (λ o. then o (λ xs at₂. got (x ∷ xs) at₂)) (e at)
   more (fault d) a b e = refl
 
-  plain : (n i at : ℕ) → times n p at ≡ numbered n (λ _. p) i at
+  pub plain : (n i at : ℕ) → times n p at ≡ numbered n (λ _. p) i at
   plain zero i at = refl
   plain (suc n) i at = more (p at) (times n p) (numbered n (λ _. p) (i + 1)) (plain n (i + 1))
-
-module _ {E A M W : Type 0} {p : W → ℕ → Outcome E A} {step : W → M → A → M} {w₀ : W} {n : ℕ} {m₀ : M} {at₀ : ℕ} {w : W} {i : ℕ} {m : M} {at : ℕ} where
-  pub breaks_plain : Onward (λ w _. p w) step w₀ n m₀ at₀ w i m at → i < n → {e : E} → p w at ≡ fault e → times n (p w₀) at₀ ≡ fault e
-  breaks_plain o more f = plain (p w₀) n 0 at₀ ∙ breaks o more f
-
-  pub ends_plain : Onward (λ w _. p w) step w₀ n m₀ at₀ w i m at → n ≤ i → then (times n (p w₀) at₀) (λ xs next. got (fold (step w₀) m₀ xs) next) ≡ got m at
-  ends_plain o done = ap (λ k. then k (λ xs next. got (fold (step w₀) m₀ xs) next)) (plain (p w₀) n 0 at₀) ∙ ends o done
 
 -- a state that came to be, with an answer that says nothing
 pub answered : {E A M : Type 0} (o : Outcome E A) (f : A → M) (m : M) (at : ℕ) → then o (λ x next. got (f x) next) ≡ got m at → then o (λ x next. got (with (f x) (nothing x)) next) ≡ got (with m tt) at
@@ -83,9 +76,6 @@ answered (fault d) f m at e = let z : ◌≡◌ {A = ℕ} 0 1 = cc in absurd (om
 -- a step whose outcome is known
 pub after : {E A B : Type 0} {o : Outcome E A} {x : A} {at : ℕ} (f : A → ℕ → Outcome E B) → o ≡ got x at → then o f ≡ f x at
 after f e = rw e
-
-pub after_fault : {E A B : Type 0} {o : Outcome E A} {d : E} (f : A → ℕ → Outcome E B) → o ≡ fault d → then o f ≡ fault d
-after_fault f e = rw e
 
 -- what was read and worked into a state, seen at a window that is the same
 pub record Opened {E A M V W : Type 0} (one : W → ℕ → Outcome E A) (step : W → M → A → M) (answer : A → V) (w : W) (m : M) (p : ℕ) (m' : M) (v : V) (p' : ℕ) : Type 0 where

@@ -9,7 +9,7 @@ use crate::fault::{DecodeError, ItemFault};
 use msgpack::marker::Width;
 
 // What the next item says, and the place behind it.
-#[derive(Clone, Copy)]
+#[derive(Clone, Copy, Debug, PartialEq, Eq)]
 pub(crate) struct Behind<T> {
     pub value: T,
     pub next: usize,
@@ -30,6 +30,7 @@ impl<T> Behind<T> {
 }
 
 // The big-endian number that the bytes begin with, where there are enough of them.
+// Four arms, of one load each: std has `from_be_bytes` for each size and no trait over them; one body for all would be a fold, byte by byte, or a copy of varying length.
 fn big_endian(bytes: &[u8], width: Width) -> Option<u64>
     ensures value { result ≡ (if nat_le (wide width) (length bytes.now) then Some (big (take (wide width) bytes.now)) else None) }
     ensures bound { IfSome result (λ n. n < 256 ^ wide width) }
@@ -54,10 +55,11 @@ impl<'a> Buffer<'a> {
         ensures sees { Sees (λ n. n) result self.now (by_content short width (λ n. n)) }
         ensures bound { IfOk result (λ b. b.value < 256 ^ wide width) }
     {
-        if self.pos == self.window.len() {
-            return Err(self.fault(short));
-        }
-        let value = big_endian(&self.window[self.pos + 1..], width).ok_or(self.fault(short))?;
+        let value = self
+            .window
+            .get(self.pos + 1..)
+            .and_then(|bytes| big_endian(bytes, width))
+            .ok_or(self.fault(short))?;
         Ok(Behind {
             value,
             next: self.pos + 1 + width.bytes(),

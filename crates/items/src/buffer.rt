@@ -7,6 +7,7 @@ use crate::fault::{DecodeError, ItemFault};
 use crate::head::Head;
 use msgpack::marker::Marker;
 
+// Window and place, and no shorter and shorter slice: faults and parts tell their places from the window's start.
 #[derive(Drop)]
 pub struct Buffer<'a> {
     pub window: &'a [u8],
@@ -34,21 +35,16 @@ impl<'a> Buffer<'a> {
     pub(crate) fn head(&self) -> Option<Head>
         ensures { result ≡ (if nat_lt self.now.pos (length self.now.window.now) then Some (head_of (marker (slice_index self.now.window.now self.now.pos))) else None) }
     {
-        if self.pos < self.window.len() {
-            Some(Head::of(Marker::from(self.window[self.pos])))
-        } else {
-            None
-        }
+        self.window
+            .get(self.pos)
+            .map(|byte| Head::from(Marker::from(*byte)))
     }
 
     // A fault of the next item.
     pub(crate) fn fault(&self, cause: DecodeError) -> ItemFault
         ensures { result ≡ record { cause = cause; place = self.now.pos } }
     {
-        ItemFault {
-            cause,
-            place: self.pos,
-        }
+        cause.at(self.pos)
     }
 
     // Passes over the next item if it is null, and says whether it was.
@@ -57,10 +53,10 @@ impl<'a> Buffer<'a> {
         ensures place { self.new.pos ≡ (if result then self.old.pos + 1 else self.old.pos) }
         ensures window { self.new.window ≡ self.old.window }
     {
-        if self.pos < self.window.len() && self.window[self.pos] == 0xc0 {
+        let null = matches!(self.head(), Some(Head::Null));
+        if null {
             self.pos += 1;
-            return true;
         }
-        false
+        null
     }
 }

@@ -19,6 +19,13 @@ impl DecodeError {
     {
         self as u8
     }
+
+    // The fault with this cause, of the item at a place.
+    pub fn at(self, place: usize) -> ItemFault
+        ensures { result ≡ record { cause = self; place = place } }
+    {
+        ItemFault { cause: self, place }
+    }
 }
 
 // An item's fault: its cause, and the place of the item's first byte in the window.

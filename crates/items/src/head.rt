@@ -13,7 +13,7 @@ pub enum Kind {
     Map,
 }
 
-#[derive(Clone, Copy)]
+#[derive(Clone, Copy, Debug, PartialEq, Eq)]
 pub(crate) enum Head {
     Null,
     Truth(bool),
@@ -31,10 +31,10 @@ pub(crate) enum Head {
     Other,
 }
 
-impl Head {
-    pub(crate) fn of(marker: Marker) -> Head
-        ensures { result ≡ head_of marker }
-    {
+impl From<Marker> for Head {
+    ghost from_gives = { λ marker head. head ≡ head_of marker };
+
+    fn from(marker: Marker) -> Head {
         match marker {
             Marker::PositiveFixint(b) => Head::Positive(b),
             Marker::FixMap(n) => Head::Length(Kind::Map, n),

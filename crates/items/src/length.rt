@@ -9,7 +9,7 @@ use crate::fault::{DecodeError, ItemFault};
 use crate::head::{Head, Kind};
 
 // The causes of the ways in which a length can fail.
-#[derive(Clone, Copy)]
+#[derive(Clone, Copy, Debug, PartialEq, Eq)]
 pub struct Causes {
     pub nothing_left: DecodeError,
     pub other_marker: DecodeError,
@@ -53,6 +53,7 @@ impl Causes {
 
 impl<'a> Buffer<'a> {
     // The header of the next item, which is not passed over.
+    // `kind` and `causes` are two parameters: arrays and maps are each read with more than one set of causes, so a struct of both would be made at each call and taken apart here.
     pub(crate) fn header(&self, kind: Kind, causes: Causes) -> Result<Behind<u64>, ItemFault>
         ensures { Sees (λ n. n) result self.now (a_length kind causes) }
     {
@@ -76,5 +77,12 @@ impl<'a> Buffer<'a> {
     {
         let header = self.header(kind, causes)?;
         Ok(self.pass(header))
+    }
+
+    // Reads the length of an array or a map; every failure has the cause given.
+    pub fn read_count(&mut self, kind: Kind, cause: DecodeError) -> Result<u64, ItemFault>
+        ensures { Reads (λ n. n) result self.old self.new (a_length kind (all_causes cause)) }
+    {
+        self.read_length(kind, Causes::all(cause))
     }
 }

@@ -2,7 +2,8 @@
 ghost use Rattle.std.specs.Prelude.{◌≡◌, ◌^◌, ◌<◌};
 ghost use Rattle.std.specs.Option.{option_map};
 ghost use Rattle.msgpack.specs.Numbers.{wide, twos};
-ghost use Rattle.items.specs.Items.{a_number, an_integer, a_double, integer_of, double_by, double_of};
+ghost use Rattle.items.specs.Items.{a_number, a_double, double_by, double_of};
+ghost use Rattle.items.specs.Ranges.{number_in, integer_in};
 ghost use Rattle.items.specs.Buffers.{Reads, Sees};
 
 use crate::behind::Behind;
@@ -13,7 +14,7 @@ use crate::integer::IntegerRange;
 use msgpack::double::{signed_bits, single_bits, unsigned_bits};
 use msgpack::marker::Width;
 
-#[derive(Clone, Copy)]
+#[derive(Clone, Copy, Debug, PartialEq, Eq)]
 pub enum Number {
     Unsigned(u64),
     Signed(i64),
@@ -35,17 +36,19 @@ impl Number {
 
     // The integer of this number, where it has one of the kind asked.
     pub fn integer<T: IntegerRange>(self) -> Option<T>
-        ensures { option_map T.IntegerRange.worth result ≡ integer_of T.IntegerRange.low T.IntegerRange.high self }
+        ensures { option_map T.IntegerRange.worth result ≡ number_in T.IntegerRange.range self }
     {
-        match self {
-            Number::Unsigned(n) => T::from_number(i128::from(n)),
-            Number::Signed(n) => T::from_number(i128::from(n)),
-            Number::Float(_) => None,
-        }
+        let n = match self {
+            Number::Unsigned(n) => i128::from(n),
+            Number::Signed(n) => i128::from(n),
+            Number::Float(_) => return None,
+        };
+        T::try_from(n).ok()
     }
 }
 
 // The two's complement number of these bits.
+// Four arms, each std's cast of one width: a shift up and back would serve all widths, but no reader sees at once that it copies the sign.
 fn signed(width: Width, bits: u64) -> i64
     requires { bits < 256 ^ wide width }
     ensures { result ≡ twos (wide width) bits }
@@ -76,6 +79,7 @@ impl<'a> Buffer<'a> {
     {
         let head = self.head().ok_or(self.fault(DecodeError::InvalidFormat))?;
         let next = self.pos + 1;
+        let short = DecodeError::IOError;
         match head {
             Head::Positive(b) => Ok(Behind {
                 value: Number::Unsigned(u64::from(b)),
@@ -85,18 +89,15 @@ impl<'a> Buffer<'a> {
                 value: Number::Signed(i64::from(b.cast_signed())),
                 next,
             }),
-            Head::Unsigned(width) => {
-                let bits = self.content(width, DecodeError::IOError)?;
-                Ok(bits.map(|n| Number::Unsigned(n)))
-            }
-            Head::Signed(width) => {
-                let bits = self.content(width, DecodeError::IOError)?;
-                Ok(bits.map(|n| Number::Signed(signed(width, n))))
-            }
-            Head::Float(width) => {
-                let bits = self.content(width, DecodeError::IOError)?;
-                Ok(bits.map(|n| Number::Float(float(width, n))))
-            }
+            Head::Unsigned(width) => Ok(self.content(width, short)?.map(Number::Unsigned)),
+            Head::Signed(width) => Ok(
+                self.content(width, short)?
+                    .map(|n| Number::Signed(signed(width, n))),
+            ),
+            Head::Float(width) => Ok(
+                self.content(width, short)?
+                    .map(|n| Number::Float(float(width, n))),
+            ),
             _ => Err(self.fault(DecodeError::InvalidType)),
         }
     }
@@ -108,19 +109,27 @@ impl<'a> Buffer<'a> {
         Ok(self.pass(number))
     }
 
-    // Reads a number as an integer of the kind asked.
-    pub fn read_integer<T: IntegerRange>(&mut self) -> Result<T, ItemFault>
-        ensures { Reads T.IntegerRange.worth result self.old self.new (an_integer T.IntegerRange.low T.IntegerRange.high) }
+    // The integer of the kind asked that the next item is, which is not passed over.
+    pub(crate) fn next_integer<T: IntegerRange>(&self) -> Result<Behind<T>, ItemFault>
+        ensures { Sees T.IntegerRange.worth result self.now (integer_in T.IntegerRange.range) }
     {
         let number = self.next_number()?;
         let value = number
             .value
             .integer()
             .ok_or(self.fault(DecodeError::InvalidConversion))?;
-        Ok(self.pass(Behind {
+        Ok(Behind {
             value,
             next: number.next,
-        }))
+        })
+    }
+
+    // Reads a number as an integer of the kind asked.
+    pub fn read_integer<T: IntegerRange>(&mut self) -> Result<T, ItemFault>
+        ensures { Reads T.IntegerRange.worth result self.old self.new (integer_in T.IntegerRange.range) }
+    {
+        let integer = self.next_integer()?;
+        Ok(self.pass(integer))
     }
 
     // Reads a number as a double, by its 64 bits.

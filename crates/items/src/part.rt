@@ -11,7 +11,7 @@ use crate::length::Causes;
 use msgpack::text::is_text;
 
 // A text or a byte part of the window.
-#[derive(Clone, Copy)]
+#[derive(Clone, Copy, Debug, PartialEq, Eq)]
 pub struct Part<'a> {
     pub bytes: &'a [u8],
     // the place of the item's first byte
@@ -31,20 +31,18 @@ impl<'a> Buffer<'a> {
         ensures { Sees piece_of result self.now (a_piece kind causes short) }
     {
         let header = self.header(kind, causes)?;
-        let window = self.window;
         let start = header.next;
-        let length = header.value as usize;
-        if length > window.len() - start {
-            return Err(self.fault(short));
-        }
-        let next = start + length;
+        // `as` keeps the number, since a `usize` has 64 bits; `try_from` would add a failure that no length leads to.
+        let bytes = self.window[start..]
+            .get(..header.value as usize)
+            .ok_or(self.fault(short))?;
         Ok(Behind {
             value: Part {
-                bytes: &window[start..next],
+                bytes,
                 place: self.pos,
                 start,
             },
-            next,
+            next: start + bytes.len(),
         })
     }
 

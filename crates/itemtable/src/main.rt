@@ -20,16 +20,15 @@ fn answer(rt: &HostRuntime, line: &str) -> anyhow::Result<()> {
         println!(rt; "{said}")?;
     } else {
         let run = write_item(rt.alloc(), kind, value)?;
-        for b in run.iter() {
-            print!(rt; "{b:02x}")?;
-        }
-        println!(rt; "")?;
+        let text = hex::encode(rt.alloc(), run)?;
+        println!(rt; "{text}")?;
     }
     Ok(())
 }
 
 fn main(rt: HostRuntime) -> anyhow::Result<()> {
     let heap = rt.alloc();
+    // The loop stands in both table programs: of its three lines a function would take the loop, and each program a closure, so it would be no plainer.
     for line in BufReader::new(heap, rt.stdin())?.lines(heap) {
         let line = line?;
         answer(&rt, line.as_str())?;

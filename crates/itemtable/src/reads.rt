@@ -5,9 +5,10 @@ use items::head::Kind;
 use items::length::Causes;
 use items::part::Part;
 use std::fmt;
+use thiserror::Error;
 
 // What was read.
-#[derive(Clone, Copy)]
+#[derive(Clone, Copy, Debug, PartialEq, Eq)]
 enum Said {
     Whole(i128),
     Bits(u64),
@@ -34,20 +35,16 @@ fn part(read: Part<'_>) -> Said {
 }
 
 // Why nothing was read.
-#[derive(Clone, Copy)]
+#[derive(Clone, Copy, Debug, PartialEq, Eq, Error)]
 enum Unread {
-    Fault(ItemFault),
+    #[error("fault {} place {}", .0.cause.number(), .0.place)]
+    Fault(#[from] ItemFault),
+    #[error("no such kind")]
     NoSuchKind,
 }
 
-impl From<ItemFault> for Unread {
-    fn from(fault: ItemFault) -> Unread {
-        Unread::Fault(fault)
-    }
-}
-
 // What a reading says, and the place after it.
-#[derive(Clone, Copy)]
+#[derive(Clone, Copy, Debug, PartialEq, Eq)]
 pub struct Answer {
     said: Result<Said, Unread>,
     next: usize,
@@ -58,11 +55,8 @@ impl fmt::Display for Answer {
         let next = self.next;
         match self.said {
             Ok(said) => write!(f, "{said} next {next}"),
-            Err(Unread::Fault(ItemFault { cause, place })) => {
-                let cause = cause.number();
-                write!(f, "fault {cause} place {place} next {next}")
-            }
-            Err(Unread::NoSuchKind) => write!(f, "no such kind"),
+            Err(Unread::NoSuchKind) => write!(f, "{}", Unread::NoSuchKind),
+            Err(unread) => write!(f, "{unread} next {next}"),
         }
     }
 }
@@ -77,10 +71,10 @@ fn read_kind(buf: &mut Buffer<'_>, kind: &str) -> Result<Said, Unread> {
         "double" => Said::Bits(buf.read_double()?),
         "text" => part(buf.read_text()?),
         "bytes" => part(buf.read_bytes()?),
-        "array2" => whole(buf.read_length(Kind::Array, Causes::all(DecodeError::InvalidType))?),
-        "array3" => whole(buf.read_length(Kind::Array, Causes::all(DecodeError::InvalidFormat))?),
-        "map2" => whole(buf.read_length(Kind::Map, Causes::all(DecodeError::InvalidType))?),
-        "map3" => whole(buf.read_length(Kind::Map, Causes::all(DecodeError::InvalidFormat))?),
+        "array2" => whole(buf.read_count(Kind::Array, DecodeError::InvalidType)?),
+        "array3" => whole(buf.read_count(Kind::Array, DecodeError::InvalidFormat)?),
+        "map2" => whole(buf.read_count(Kind::Map, DecodeError::InvalidType)?),
+        "map3" => whole(buf.read_count(Kind::Map, DecodeError::InvalidFormat)?),
         "values" => whole(buf.read_length(Kind::Map, Causes::of_values())?),
         "truth" => whole(buf.read_boolean(DecodeError::InvalidType)?),
         "null" => whole(buf.handle_null_marker()),

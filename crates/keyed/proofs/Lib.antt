@@ -1,1 +1,2 @@
+pub mod Equations
 pub mod Seeks

@@ -13,8 +13,11 @@ use Rattle.keyed.specs.declared.list.Entry.{Entry}
 use Rattle.keyed.specs.Keyed.{seek, value_of, revalued, Put, adding, refusing, put_at, putting, Finds}
 use Rattle.keyed.specs.Sameness.{Laws}
 
--- another value at a place, as the write of a whole entry
-pub revalued_set : {K V : Type 0} (xs : List (Entry K V)) (i : ℕ) (v : V) (d : Entry K V) → set xs i (record { key = (get_or xs i d).key; value = v }) ≡ revalued xs i v
+-- another value at a place, by the write of a whole entry (d stands for an entry that is not there)
+abbrev pub rewritten : {K V : Type 0} → List (Entry K V) → ℕ → V → Entry K V → List (Entry K V)
+rewritten xs i v d = set xs i (record { key = (get_or xs i d).key; value = v })
+
+pub revalued_set : {K V : Type 0} (xs : List (Entry K V)) (i : ℕ) (v : V) (d : Entry K V) → rewritten xs i v d ≡ revalued xs i v
 revalued_set [] i v d = refl
 revalued_set (x ∷ xs) zero v d = refl
 revalued_set (x ∷ xs) (suc i) v d = ap (λ ys. x ∷ ys) (revalued_set xs i v d)
@@ -48,7 +51,7 @@ module _ {K : Type 0} (same : K → K → Bool) (laws : Laws same) where
 module _ {K V : Type 0} (same : K → K → Bool) where
   -- what a put of a known key comes to
   pub known : (key : K) (v : V) (n : ℕ) (xs : List (Entry K V)) (i : ℕ) (d : Entry K V) → Some i ≡ seek same key (take n xs)
-      → putting same key v n xs ≡ record { answer = Ok i; memory = set xs i (record { key = (get_or xs i d).key; value = v }); used = n }
+      → putting same key v n xs ≡ record { answer = Ok i; memory = rewritten xs i v d; used = n }
   known key v n xs i d e =
       ap (λ o. put_at same o key v n xs) (sym e) ∙ ap (λ ys. record { answer = Ok i; memory = ys; used = n }) (sym (revalued_set xs i v d))
 
@@ -66,10 +69,10 @@ module _ {K V : Type 0} (same : K → K → Bool) where
 
   module _ (laws : Laws same) where
     -- another value in the first entry with the key
-    replaced : (key : K) (v : V) (xs : List (Entry K V)) (i : ℕ) (d : Entry K V) → seek same key xs ≡ Some i → Finds same key v xs (set xs i (record { key = (get_or xs i d).key; value = v }))
+    replaced : (key : K) (v : V) (xs : List (Entry K V)) (i : ℕ) (d : Entry K V) → seek same key xs ≡ Some i → Finds same key v xs (rewritten xs i v d)
     replaced key v xs i d e q = by (same key q) refl
       where
-        by : (u : Bool) → same key q ≡ u → value_of same q (set xs i (record { key = (get_or xs i d).key; value = v })) ≡ cond u (Some v) (value_of same q xs)
+        by : (u : Bool) → same key q ≡ u → value_of same q (rewritten xs i v d) ≡ cond u (Some v) (value_of same q xs)
         by true t =
             let h = position-Some (λ x. same x.key key) xs i d e in
             ap (option_map (λ x. x.value)) (sym (found_alike same laws key q _ t) ∙ find-set (λ x. same x.key key) xs i _ (at_position _ xs i e) h.0 h.1)
@@ -79,7 +82,7 @@ module _ {K V : Type 0} (same : K → K → Bool) where
             ap (option_map (λ x. x.value)) (find_past (λ x. same x.key q) xs i _ d other other)
 
     pub replaced_used : (key : K) (v : V) (n : ℕ) (xs : List (Entry K V)) (i : ℕ) (d : Entry K V) → Some i ≡ seek same key (take n xs) → i < n
-        → Finds same key v (take n xs) (take n (set xs i (record { key = (get_or xs i d).key; value = v })))
+        → Finds same key v (take n xs) (take n (rewritten xs i v d))
     replaced_used key v n xs i d e h q =
         ap (value_of same q) (take-set-lt n xs i _ h ∙ ap (λ z. set (take n xs) i (record { key = z.key; value = v })) (sym (get_or-take n xs i d h))) ∙ replaced key v (take n xs) i d (sym e) q
 

@@ -11,11 +11,12 @@ pub struct Entry<K, V> {
 }
 
 // No entry is free for a new key.
+// Alike to `Full` of crate sinks, and not one with it: the lists and the sinks have no crate below both, and one for this alone is no plainer.
 #[derive(Clone, Copy, Debug, PartialEq, Eq)]
 pub struct Shortage;
 
 impl Shortage {
-    // The number by which this refusal is known.
+    // The number by which documents know this refusal: a rule of the project, since all refusals share one table of numbers.
     pub fn number(self) -> u8
         ensures { result ≡ shortage_number }
     {
@@ -24,7 +25,7 @@ impl Shortage {
 }
 
 // The first `len` of the entries are in use.
-// A slice with a length beside it: the user gives the memory and lends each call the sameness of keys, as the project wants it.
+// A slice with a length beside it, since the user gives the memory; the sameness of keys is lent to each call, since it may hold what the keys are read against.
 // No impl Model: it was tried, also with an inverse and a drop of its own, and then who lets a list go knows nothing of its memory.
 #[derive(Drop)]
 pub struct KeyedList<'a, K, V> {

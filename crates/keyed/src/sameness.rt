@@ -17,7 +17,7 @@ pub trait Sameness<K> {
 #[derive(Clone, Copy, Debug, Default, PartialEq, Eq)]
 pub struct Equality;
 
-// The name that it has for numbers of spans.
+// The name that callers know it by, for numbers of spans.
 pub use Equality as SpanNumbers;
 
 impl<K: Copy + Eq> Sameness<K> for Equality {

@@ -16,7 +16,7 @@ use trees::step::Step;
 use trees::telling::Telling;
 
 // The pairs of a map, and the field that holds it.
-#[derive(Clone, Copy)]
+#[derive(Clone, Copy, Debug, PartialEq, Eq)]
 pub struct Pairs<P> {
     pub kind: P,
     pub key: PairKey,

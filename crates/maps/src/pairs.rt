@@ -17,7 +17,7 @@ use items::item::{Item, ItemKind};
 use items::length::Causes;
 
 // A pair as it was read; no value for null.
-#[derive(Clone, Copy)]
+#[derive(Clone, Copy, Debug, PartialEq, Eq)]
 pub struct PairRead<'a> {
     pub key: Item<'a>,
     pub value: Option<Item<'a>>,
@@ -40,7 +40,8 @@ pub trait PairReader {
 }
 
 // Text with text, where null drops the pair.
-#[derive(Clone, Copy)]
+// A kind of its own beside `ItemPairs`, which would need a flag for that, asked at every pair, and be no plainer.
+#[derive(Clone, Copy, Debug, PartialEq, Eq)]
 pub struct TextTexts;
 
 impl PairReader for TextTexts {
@@ -66,7 +67,7 @@ impl PairReader for TextTexts {
 }
 
 // An item of one kind with an item of another, neither of which is null.
-#[derive(Clone, Copy)]
+#[derive(Clone, Copy, Debug, PartialEq, Eq)]
 pub struct ItemPairs {
     key: ItemKind,
     value: ItemKind,

@@ -8,7 +8,7 @@ use std::num::{
 };
 
 // The double nearest to a number; of two as near, the one with an even last digit.
-// Two functions and no generic one, which is no plainer: std has a function for each type and no trait over them, so a trait here would hold these same two bodies.
+// Two functions and no generic one, which is no plainer: std has a function for each type and no trait over them, so a trait here would hold these same two bodies; `to_f64` of num_traits answers an Option, and each caller would have to say what its empty case means.
 pub fn unsigned_bits(n: u64) -> u64
     ensures { result ≡ nearest_double (pos n) }
 {

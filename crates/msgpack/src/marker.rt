@@ -20,6 +20,7 @@ impl Width {
     }
 }
 
+// One `Width` for all, though `Float`, `Str`, `Array` and `Map` have fewer: a type of fewer widths for each would need its own number of bytes, and no first byte leads to the others.
 #[derive(Clone, Copy, Debug, PartialEq, Eq)]
 pub enum Marker {
     PositiveFixint(u8),

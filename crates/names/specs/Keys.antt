@@ -1,5 +1,5 @@
 -- The fields of each kind of record. Assumes nothing.
-use Rattle.std.specs.Prelude.{ℕ, cond, List, [], ◌∷◌, Some, None, Option, find}
+use Rattle.std.specs.Prelude.{ℕ, cond, List, [], ◌∷◌, Some, None, Option, option_map, find}
 use Rattle.names.specs.declared.table.Name.{Name}
 use Rattle.names.specs.declared.table.Name.TheVariants as names
 use Rattle.names.specs.declared.keys.AttributeAnyKey.{AttributeAnyKey}
@@ -40,6 +40,9 @@ span_name span.SpanEvents = names.SpanEvents
 abbrev pub span_keys : List SpanKey
 span_keys = span.Service ∷ span.Name ∷ span.Resource ∷ span.TraceId ∷ span.SpanId ∷ span.ParentId ∷ span.Start ∷ span.Duration ∷ span.Error ∷ span.Meta ∷ span.Metrics ∷ span.Type ∷ span.MetaStruct ∷ span.SpanLinks ∷ span.SpanEvents ∷ []
 
+abbrev pub span_with : List ℕ → Option SpanKey
+span_with bytes = key_with span_name bytes span_keys
+
 -- the fields of a link
 abbrev pub link_name : SpanLinkKey → Name
 link_name link.TraceId = names.TraceId
@@ -52,6 +55,9 @@ link_name link.Flags = names.Flags
 abbrev pub link_keys : List SpanLinkKey
 link_keys = link.TraceId ∷ link.TraceIdHigh ∷ link.SpanId ∷ link.Attributes ∷ link.Tracestate ∷ link.Flags ∷ []
 
+abbrev pub link_with : List ℕ → Option SpanLinkKey
+link_with bytes = key_with link_name bytes link_keys
+
 -- the fields of an event
 abbrev pub event_name : SpanEventKey → Name
 event_name event.TimeUnixNano = names.TimeUnixNano
@@ -60,6 +66,9 @@ event_name event.Attributes = names.Attributes
 
 abbrev pub event_keys : List SpanEventKey
 event_keys = event.TimeUnixNano ∷ event.Name ∷ event.Attributes ∷ []
+
+abbrev pub event_with : List ℕ → Option SpanEventKey
+event_with bytes = key_with event_name bytes event_keys
 
 -- the fields of an element of an array value
 abbrev pub element_name : AttributeArrayKey → Name
@@ -72,13 +81,12 @@ element_name element.DoubleValue = names.DoubleValue
 abbrev pub element_keys : List AttributeArrayKey
 element_keys = element.Type ∷ element.StringValue ∷ element.BoolValue ∷ element.IntValue ∷ element.DoubleValue ∷ []
 
-abbrev pub as_single : Option AttributeArrayKey → Option AttributeAnyKey
-as_single None = None
-as_single (Some k) = Some (attribute.Single k)
+abbrev pub element_with : List ℕ → Option AttributeArrayKey
+element_with bytes = key_with element_name bytes element_keys
 
 -- the field of an attribute: an array, or a field of an element
 abbrev pub attribute_with : List ℕ → Option AttributeAnyKey
-attribute_with bytes = cond (is_spelled names.ArrayValue bytes) (Some attribute.ArrayValue) (as_single (key_with element_name bytes element_keys))
+attribute_with bytes = cond (is_spelled names.ArrayValue bytes) (Some attribute.ArrayValue) (option_map (λ k. attribute.Single k) (element_with bytes))
 
 -- the only field of an array
 abbrev pub values_with : List ℕ → Option ValuesKey

@@ -1,7 +1,7 @@
 // The fields of each kind of record, by their names.
 ghost use Rattle.std.specs.Prelude.{◌≡◌, ℕ, List, Some, Option as Maybe};
 ghost use Rattle.names.specs.declared.table.Name.{Name as AnyName};
-ghost use Rattle.names.specs.Keys.{key_with, span_name, span_keys, link_name, link_keys, event_name, event_keys, element_name, element_keys, attribute_with, values_with};
+ghost use Rattle.names.specs.Keys.{key_with, span_name, span_keys, span_with, link_name, link_keys, link_with, event_name, event_keys, event_with, element_name, element_keys, element_with, attribute_with, values_with};
 ghost use Rattle.names.specs.Names.{spelled};
 ghost use Rattle.names.specs.Tells.{Tells, found_alone, attribute_name, values_name, attribute_tells, values_tells, WrittenAsText};
 ghost use Rattle.std.proofs.Common.{rules};
@@ -22,6 +22,7 @@ pub trait Named: Sized {
 }
 
 // A field of a record that has a list of them, each of a name of its own.
+// `name` and `all` stay apart: in one table of pairs the name of a field would be searched for and could be missing, where a match has to name each.
 pub trait Key: Copy + 'static {
     ghost key_name: { Self → AnyName };
 
@@ -276,10 +277,10 @@ fn tells<K: Named>()
 
 // Each field is found by its own name and by nothing else, and each name is written as a text.
 pub fn names_tell()
-    ensures span { Tells span_name (λ t. key_with span_name t span_keys) }
-    ensures link { Tells link_name (λ t. key_with link_name t link_keys) }
-    ensures event { Tells event_name (λ t. key_with event_name t event_keys) }
-    ensures element { Tells element_name (λ t. key_with element_name t element_keys) }
+    ensures span { Tells span_name span_with }
+    ensures link { Tells link_name link_with }
+    ensures event { Tells event_name event_with }
+    ensures element { Tells element_name element_with }
     ensures attribute { Tells attribute_name attribute_with }
     ensures values { Tells values_name values_with }
     ensures written { WrittenAsText }

@@ -34,7 +34,7 @@ pub enum Name {
 }
 
 // Each name as it is written, in the order of `Name`: a head byte, and the name behind it.
-// This stays a table: it is a rule here that names and how they are written stand in one constant table.
+// This stays a table: names and how they are written stand in one constant table, so that one place has both.
 const NAMES: [&[u8]; 26] = [
     b"\xA7service",
     b"\xA4name",

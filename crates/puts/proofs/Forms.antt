@@ -3,6 +3,8 @@ use Rattle.std.proofs.Common.{◌≡◌, ℕ, ◌^◌, ◌<◌, ◌≤◌, true,
 use Rattle.std.proofs.lemmas.Bool.{cond_both, ltb-true, ltb-false}
 use Rattle.msgpack.specs.Encodings.{Form, far, unsigned_forms, signed_forms, negative_forms, text_forms, binary_forms, array_forms, map_forms, By, Headed, first_form, boolean, integer, text, binary, array, map, written_integer, written_text, written_binary, written_array, written_map, written_boolean, fixed_i64}
 use Rattle.puts.specs.Laws.{Encoded, Shortest, FitsEither, FitsSigned}
+use Rattle.puts.specs.contracts.fixed.BoolFixed.TheImpl.Laws as truths
+use Rattle.puts.specs.contracts.fixed.I64Fixed.TheImpl.Laws as signed
 
 -- the first form that takes a number is one of the forms, where the last takes it
 top : ℕ → List Form → ℕ
@@ -42,12 +44,10 @@ unfolding top
 maps_encoded n h = met map_forms 0 n (omega arith) h
 
 pub booleans_encoded : Encoded boolean (λ _. Unit {0}) written_boolean
-booleans_encoded true h = refl
-booleans_encoded false h = refl
+booleans_encoded = truths.encoded-law
 
 pub signed_encoded : Encoded integer FitsSigned fixed_i64
-signed_encoded (pos n) h = inr (inr (inr (inr (inl (h, refl)))))
-signed_encoded (negsuc n) h = inr (inr (inr (inr (inl (h, refl)))))
+signed_encoded = signed.encoded-law
 
 -- forms of these lengths, none shorter than the one before
 abbrev Rising : ℕ → List Form → Type 0

@@ -1,4 +1,4 @@
-// The first bytes of a kind of length.
+// The first bytes of the forms of a number.
 ghost use Rattle.std.specs.Prelude.{◌+◌, ◌≤◌};
 
 // A length below the limit stands in the first byte, above the base.
@@ -9,11 +9,12 @@ pub struct Near {
     pub ghost fits: { base + limit ≤ 256 },
 }
 
-// Where a kind of length has no form in the first byte, or none of one byte behind it, there is none here.
+// Where numbers have no form in the first byte, or none of one or of eight bytes behind it, there is none here.
 #[derive(Clone, Copy, Debug, PartialEq, Eq)]
 pub struct FirstBytes {
     pub near: Option<Near>,
     pub one: Option<u8>,
     pub two: u8,
     pub four: u8,
+    pub eight: Option<u8>,
 }

@@ -36,6 +36,7 @@ impl Fixed for bool {
     }
 }
 
+// An impl for each type of integer: one over a trait of integers would take from that trait the same members, and the first byte, so each type would have its impl still.
 impl Fixed for u8 {
     ghost item = { λ n. integer (pos n) };
 

@@ -4,6 +4,7 @@
 mod behind;
 pub mod first;
 pub mod fixed;
+mod form;
 pub mod integer;
 pub mod laws;
 pub mod length;

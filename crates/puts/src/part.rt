@@ -7,6 +7,7 @@ use crate::length::{Binary, Length, Text, head_len, put_len};
 use sinks::sink::{Full, Sink};
 
 // What has a content of so many bytes as its length says.
+// With no member, since all that a content needs is its length: it keeps arrays and maps out, whose length counts items.
 pub trait Part: Length {}
 
 impl Part for Text {}
@@ -18,9 +19,7 @@ pub fn put_part<P: Part, S: Sink>(sink: &mut S, content: &[u8]) -> Result<(), Fu
     ensures short { length content.now < 2 ^ 32 → Puts S.Sink (first_form P.forms (length content.now) ++ content.now) sink.old sink.new result }
     ensures long { 2 ^ 32 ≤ length content.now → (is_err result ≡ true) × (S.state sink.new ≡ S.state sink.old) }
 {
-    let Ok(len) = u32::try_from(content.len()) else {
-        return Err(Full);
-    };
+    let len = u32::try_from(content.len()).map_err(|_| Full)?;
     if sink.space() < (head_len::<P>(len) + content.len()) as u64 {
         return Err(Full);
     }

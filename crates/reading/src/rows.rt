@@ -1,22 +1,16 @@
 // The rows of a listing, from what is told of a payload.
+ghost use Rattle.std.specs.Prelude.{◌≡◌};
 ghost use Rattle.trees.specs.Payloads.{v04};
-ghost use Rattle.trees.specs.Tellings.{Answers};
+ghost use Rattle.reading.specs.Making.{Making, made};
+ghost use Rattle.reading.specs.Rows.{HandsOn};
 
+use crate::receiver::RowReceiver;
 use crate::v04::read_payload;
 use faults::PayloadFault;
 use listing::row::SpanRow;
 use trees::keys::{IdKey, TimeKey};
 use trees::receiver::Receiver;
 use trees::step::Step;
-
-// What takes the row of each span that was read whole, and the end of each trace. No method can fail.
-pub trait RowReceiver {
-    // A span was read.
-    fn span(&mut self, row: SpanRow);
-
-    // All spans of a trace were read.
-    fn trace(&mut self);
-}
 
 // The row of the span that is being read, and what takes it.
 #[derive(Drop)]
@@ -25,12 +19,25 @@ struct Rows<'r, T> {
     to: &'r mut T,
 }
 
+impl<'r, T> Rows<'r, T> {
+    // No field was read yet.
+    fn new(to: &'r mut T) -> Rows<'r, T>
+        ensures receiver { result.to.now ≡ to.old }
+        ensures lender { result.to.ghost_name ≡ to.entry.ghost_name }
+    {
+        Rows {
+            row: SpanRow::default(),
+            to,
+        }
+    }
+}
+
 impl<'r, T: RowReceiver> Receiver for Rows<'r, T> {
-    ghost Meaning = { Unit {0} };
+    ghost Meaning = { Making T.RowReceiver.Meaning };
 
-    ghost state = { λ _. tt };
+    ghost state = { λ s. record { row = s.row; whole = T.RowReceiver.state s.to.now; lender = s.to.ghost_name } };
 
-    ghost act = { λ _ m _. m };
+    ghost act = { λ _. made T.RowReceiver.rowed T.RowReceiver.ended };
 
     fn take(&mut self, _window: &[u8], step: Step<'_>) {
         match step {
@@ -50,11 +57,8 @@ impl<'r, T: RowReceiver> Receiver for Rows<'r, T> {
 
 // Reads a v04 payload from the start of the window, and hands its rows on; answers the number of traces, and of the bytes read.
 pub fn from_slice<T: RowReceiver>(window: &[u8], to: &mut T) -> Result<(u64, usize), PayloadFault>
-    ensures { Answers result (v04 window.now) }
+    ensures { HandsOn T.RowReceiver result to.old to.new (v04 window.now) }
 {
-    let mut rows = Rows {
-        row: SpanRow::default(),
-        to,
-    };
+    let mut rows = Rows::new(to);
     read_payload(window, &mut rows)
 }

@@ -1,16 +1,17 @@
 // Spans: maps whose fields may come in any order, and again.
-ghost use Rattle.std.specs.Prelude.{pos};
+ghost use Rattle.std.specs.Prelude.{[]};
 ghost use Rattle.items.specs.declared.fault.DecodeError.TheVariants.{InvalidType as OtherType};
 ghost use Rattle.items.specs.declared.head.Kind.TheVariants.{Array as AnArray};
 ghost use Rattle.items.specs.Buffers.{ReadsOn};
-ghost use Rattle.items.specs.Items.{a_length, an_integer, all_causes};
+ghost use Rattle.items.specs.Items.{a_length, all_causes};
+ghost use Rattle.items.specs.Ranges.{integer_in};
 ghost use Rattle.items.specs.Reads.{raised, nothing};
 ghost use Rattle.faults.specs.declared.SpanFault.TheVariants.{Own};
-ghost use Rattle.trees.specs.Payloads.{text_field, field_by, a_field, a_span};
-ghost use Rattle.trees.specs.Records.{into, nullable, u64_range, i64_range};
-ghost use Rattle.trees.specs.Steps.{on_step, signed_of, tell_field, tell_span};
+ghost use Rattle.trees.specs.Payloads.{text_field, id_field, time_field, field_by, a_field, a_span};
+ghost use Rattle.trees.specs.Records.{nullable, a_map};
+ghost use Rattle.trees.specs.Steps.{on_step, signed_of, tell_pairs, tell_field, tell_span};
 ghost use Rattle.trees.specs.Tellings.{Tells};
-ghost use Rattle.trees.specs.Tree.{SpanField, id as an_id, signed as a_signed};
+ghost use Rattle.trees.specs.Tree.{SpanField};
 
 use faults::SpanFault;
 use items::buffer::Buffer;
@@ -18,10 +19,9 @@ use items::fault::{DecodeError, ItemFault};
 use items::head::Kind;
 use items::integer::IntegerRange;
 use items::item::ItemKind;
-use items::length::Causes;
 use maps::key::read_key;
 use maps::map::{Pairs, read_nullable_map};
-use maps::pairs::{ItemPairs, TextTexts};
+use maps::pairs::{ItemPairs, PairReader, TextTexts};
 use names::keys::SpanKey;
 use records::event::Events;
 use records::link::Links;
@@ -32,6 +32,7 @@ use trees::step::Step;
 use trees::telling::Telling;
 
 // Reads a text, or null for none.
+// Null is tested where it may stand: a function that took the reading as a closure could tell what was read only by its `post`, and is no plainer.
 fn read_text<R: Receiver>(key: TextKey, from: &mut Telling<'_, '_, R>) -> Result<(), SpanFault>
     ensures { Tells R.Receiver tell_field nothing result from.old from.new (λ bytes at. raised Own (text_field key bytes at)) }
 {
@@ -49,7 +50,7 @@ fn read_nullable_integer<T: IntegerRange + Drop>(
     buf: &mut Buffer<'_>,
     null: T,
 ) -> Result<T, ItemFault>
-    ensures { ReadsOn T.IntegerRange.worth result buf.old buf.new (nullable (T.IntegerRange.worth null) (an_integer T.IntegerRange.low T.IntegerRange.high)) }
+    ensures { ReadsOn T.IntegerRange.worth result buf.old buf.new (nullable (T.IntegerRange.worth null) (integer_in T.IntegerRange.range)) }
 {
     if buf.handle_null_marker() {
         return Ok(null);
@@ -58,8 +59,9 @@ fn read_nullable_integer<T: IntegerRange + Drop>(
 }
 
 // Reads a number without a sign, or null for 0.
+// `read_id` and `read_time` differ in type, range and step: one function would need a closure for the step, and its contract is no plainer.
 fn read_id<R: Receiver>(key: IdKey, from: &mut Telling<'_, '_, R>) -> Result<(), SpanFault>
-    ensures { Tells R.Receiver tell_field nothing result from.old from.new (λ bytes at. raised Own (into (an_id key) (nullable (pos 0) u64_range bytes at))) }
+    ensures { Tells R.Receiver tell_field nothing result from.old from.new (λ bytes at. raised Own (id_field key bytes at)) }
 {
     let id: u64 = read_nullable_integer(&mut from.buf, 0)?;
     from.take(Step::Id(key, id));
@@ -68,14 +70,28 @@ fn read_id<R: Receiver>(key: IdKey, from: &mut Telling<'_, '_, R>) -> Result<(),
 
 // Reads a time, or null for 0.
 fn read_time<R: Receiver>(key: TimeKey, from: &mut Telling<'_, '_, R>) -> Result<(), SpanFault>
-    ensures { Tells R.Receiver tell_field nothing result from.old from.new (λ bytes at. raised Own (into (a_signed (signed_of key)) (nullable (pos 0) i64_range bytes at))) }
+    ensures { Tells R.Receiver tell_field nothing result from.old from.new (λ bytes at. raised Own (time_field (signed_of key) bytes at)) }
 {
     let number: i64 = read_nullable_integer(&mut from.buf, 0)?;
     from.take(Step::Signed(key, number));
     Ok(())
 }
 
+// Reads a map of pairs of a kind, or null for an empty one.
+fn read_pairs<P: PairReader, R: Receiver>(
+    kind: P,
+    key: PairKey,
+    from: &mut Telling<'_, '_, R>,
+) -> Result<(), ItemFault>
+where
+    P: Drop,
+    ensures { Tells R.Receiver (λ act. tell_pairs act key) nothing result from.old from.new (nullable [] (a_map (P.PairReader.failing kind) (P.PairReader.one kind))) }
+{
+    read_nullable_map(&Pairs { kind, key }, from)
+}
+
 // Begins an array, or null for an empty one; answers how many elements follow.
+// What follows is two lines for links and two for events, whose faults rise by `From`s of their own: one function for both is no plainer.
 fn begin_array<R: Receiver>(
     begin: Step<'_>,
     from: &mut Telling<'_, '_, R>,
@@ -85,8 +101,7 @@ fn begin_array<R: Receiver>(
     let count = if from.buf.handle_null_marker() {
         0
     } else {
-        from.buf
-            .read_length(Kind::Array, Causes::all(DecodeError::InvalidType))?
+        from.buf.read_count(Kind::Array, DecodeError::InvalidType)?
     };
     from.take(begin);
     Ok(count)
@@ -110,27 +125,9 @@ fn read_by_key<R: Receiver>(key: SpanKey, from: &mut Telling<'_, '_, R>) -> Resu
             let error: i32 = read_nullable_integer(&mut from.buf, 0)?;
             from.take(Step::Error(error));
         }
-        SpanKey::Meta => {
-            let pairs = Pairs {
-                kind: TextTexts,
-                key: PairKey::Meta,
-            };
-            read_nullable_map(&pairs, from)?;
-        }
-        SpanKey::Metrics => {
-            let pairs = Pairs {
-                kind: ItemPairs::text_metrics(),
-                key: PairKey::Metrics,
-            };
-            read_nullable_map(&pairs, from)?;
-        }
-        SpanKey::MetaStruct => {
-            let pairs = Pairs {
-                kind: ItemPairs::text_bytes(),
-                key: PairKey::MetaStruct,
-            };
-            read_nullable_map(&pairs, from)?;
-        }
+        SpanKey::Meta => read_pairs(TextTexts, PairKey::Meta, from)?,
+        SpanKey::Metrics => read_pairs(ItemPairs::text_metrics(), PairKey::Metrics, from)?,
+        SpanKey::MetaStruct => read_pairs(ItemPairs::text_bytes(), PairKey::MetaStruct, from)?,
         SpanKey::SpanLinks => {
             let count = begin_array(Step::BeginLinks, from)?;
             read_times(&Links, count, from)?;
@@ -144,7 +141,7 @@ fn read_by_key<R: Receiver>(key: SpanKey, from: &mut Telling<'_, '_, R>) -> Resu
 }
 
 // The fields of a span.
-#[derive(Clone, Copy)]
+#[derive(Clone, Copy, Debug, PartialEq, Eq)]
 pub struct SpanFields;
 
 impl Repeated for SpanFields {
@@ -165,9 +162,7 @@ impl Repeated for SpanFields {
 pub fn read_span<R: Receiver>(from: &mut Telling<'_, '_, R>) -> Result<(), SpanFault>
     ensures { Tells R.Receiver tell_span nothing result from.old from.new a_span }
 {
-    let count = from
-        .buf
-        .read_length(Kind::Map, Causes::all(DecodeError::InvalidFormat))?;
+    let count = from.buf.read_count(Kind::Map, DecodeError::InvalidFormat)?;
     from.take(Step::BeginSpan);
     read_times(&SpanFields, count, from)?;
     from.take(Step::EndSpan);

@@ -12,11 +12,10 @@ ghost use Rattle.trees.specs.Tellings.{Tells, Loads};
 ghost use Rattle.trees.specs.Tree.{SpanField};
 
 use crate::span::read_span;
-use faults::PayloadFault;
+use faults::{PayloadFault, RecordFault};
 use items::buffer::Buffer;
 use items::fault::DecodeError;
 use items::head::Kind;
-use items::length::Causes;
 use trees::receiver::Receiver;
 use trees::repeated::{Numbered, read_numbered};
 use trees::step::Step;
@@ -26,16 +25,12 @@ use trees::telling::Telling;
 fn read_count(trace: u64, buf: &mut Buffer<'_>) -> Result<u64, PayloadFault>
     ensures { ReadsOn (λ n. n) result buf.old buf.new (λ bytes at. raised (λ e. counted trace 0 (in_payload e)) (a_length AnArray (all_causes OtherFormat) bytes at)) }
 {
-    buf.read_length(Kind::Array, Causes::all(DecodeError::InvalidFormat))
-        .map_err(|fault| PayloadFault {
-            fault: fault.into(),
-            trace,
-            span: 0,
-        })
+    buf.read_count(Kind::Array, DecodeError::InvalidFormat)
+        .map_err(|fault| RecordFault::from(fault).counted(trace, 0))
 }
 
 // The spans of a trace, before which so many whole traces were read.
-#[derive(Clone, Copy)]
+#[derive(Clone, Copy, Debug, PartialEq, Eq)]
 struct Spans {
     trace: u64,
 }
@@ -54,16 +49,12 @@ impl Numbered for Spans {
         number: u64,
         from: &mut Telling<'_, '_, R>,
     ) -> Result<(), PayloadFault> {
-        read_span(from).map_err(|fault| PayloadFault {
-            fault: fault.into(),
-            trace: self.trace,
-            span: number,
-        })
+        read_span(from).map_err(|fault| RecordFault::from(fault).counted(self.trace, number))
     }
 }
 
 // The traces of a payload.
-#[derive(Clone, Copy)]
+#[derive(Clone, Copy, Debug, PartialEq, Eq)]
 struct Traces;
 
 impl Numbered for Traces {
@@ -96,6 +87,7 @@ fn read_traces<R: Receiver>(from: &mut Telling<'_, '_, R>) -> Result<u64, Payloa
     Ok(count)
 }
 
+// The answer is a pair of numbers: a rule of the project.
 // Reads a payload from the start of the window and tells it; answers the number of traces, and of the bytes read.
 pub fn read_payload<'a, 'r, R: Receiver>(
     window: &'a [u8],

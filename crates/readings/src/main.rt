@@ -4,12 +4,13 @@
 use faults::PayloadFault;
 use hexline::bytes_of;
 use listing::row::SpanRow;
-use reading::rows::{RowReceiver, from_slice};
+use reading::receiver::RowReceiver;
+use reading::rows::from_slice;
 use std::fmt;
 use std::io::{BufRead, BufReader};
 
 // Sums up the spans that were read.
-#[derive(Clone, Copy, Default)]
+#[derive(Clone, Copy, Debug, Default, PartialEq, Eq)]
 struct Summary {
     spans: u64,
     numbers: u64,
@@ -23,6 +24,14 @@ impl Summary {
 }
 
 impl RowReceiver for Summary {
+    ghost Meaning = { Unit {0} };
+
+    ghost state = { λ _. tt };
+
+    ghost rowed = { λ m _. m };
+
+    ghost ended = { λ m. m };
+
     fn span(&mut self, row: SpanRow) {
         self.spans = self.spans.saturating_add(1);
         self.mix(row.trace_id);
@@ -39,7 +48,7 @@ impl RowReceiver for Summary {
 }
 
 // What a reading gives.
-#[derive(Clone, Copy)]
+#[derive(Clone, Copy, Debug, PartialEq, Eq)]
 struct Read {
     traces: u64,
     consumed: usize,
@@ -61,7 +70,7 @@ impl fmt::Display for Read {
 }
 
 // Why a payload is not read.
-#[derive(Clone, Copy)]
+#[derive(Clone, Copy, Debug, PartialEq, Eq)]
 struct Refused(PayloadFault);
 
 impl fmt::Display for Refused {
@@ -91,6 +100,7 @@ fn read_payload(payload: &[u8]) -> Result<Read, Refused> {
 
 fn main(rt: HostRuntime) -> anyhow::Result<()> {
     let heap = rt.alloc();
+    // The loop stands in both table programs: of its three lines a function would take the loop, and each program a closure, so it would be no plainer.
     for line in BufReader::new(heap, rt.stdin())?.lines(heap) {
         let line = line?;
         let payload = bytes_of(heap, line.as_str())?;

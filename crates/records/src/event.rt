@@ -10,7 +10,6 @@ use attributes::attribute::read_attribute;
 use faults::EventFault;
 use items::fault::DecodeError;
 use items::head::Kind;
-use items::length::Causes;
 use maps::key::read_key;
 use names::keys::SpanEventKey;
 use trees::receiver::Receiver;
@@ -19,7 +18,7 @@ use trees::step::Step;
 use trees::telling::Telling;
 
 // The attributes of an event, each under its key.
-#[derive(Clone, Copy)]
+#[derive(Clone, Copy, Debug, PartialEq, Eq)]
 pub struct Attributes;
 
 impl Repeated for Attributes {
@@ -42,9 +41,7 @@ impl Repeated for Attributes {
 fn read_attributes<R: Receiver>(from: &mut Telling<'_, '_, R>) -> Result<(), EventFault>
     ensures { Tells R.Receiver tell_attributes nothing result from.old from.new attributes_map }
 {
-    let count = from
-        .buf
-        .read_length(Kind::Map, Causes::all(DecodeError::InvalidType))?;
+    let count = from.buf.read_count(Kind::Map, DecodeError::InvalidType)?;
     from.take(Step::BeginAttributes);
     read_times(&Attributes, count, from)
 }
@@ -73,7 +70,7 @@ fn read_by_key<R: Receiver>(
 }
 
 // The fields of an event.
-#[derive(Clone, Copy)]
+#[derive(Clone, Copy, Debug, PartialEq, Eq)]
 pub struct EventFields;
 
 impl Repeated for EventFields {
@@ -92,7 +89,7 @@ impl Repeated for EventFields {
 }
 
 // The events of a span.
-#[derive(Clone, Copy)]
+#[derive(Clone, Copy, Debug, PartialEq, Eq)]
 pub struct Events;
 
 impl Repeated for Events {
@@ -105,9 +102,7 @@ impl Repeated for Events {
     ghost tell = { λ _ act. tell_event act };
 
     fn read<R: Receiver>(&self, from: &mut Telling<'_, '_, R>) -> Result<(), EventFault> {
-        let count = from
-            .buf
-            .read_length(Kind::Map, Causes::all(DecodeError::InvalidType))?;
+        let count = from.buf.read_count(Kind::Map, DecodeError::InvalidType)?;
         from.take(Step::BeginEvent);
         read_times(&EventFields, count, from)?;
         from.take(Step::EndEvent);

@@ -5,7 +5,7 @@ ghost use Rattle.sinks.specs.Counts.{count_state, counted, counted_laws};
 use crate::sink::{Full, Sink};
 
 // How many bytes were put.
-#[derive(Clone, Copy)]
+#[derive(Clone, Copy, Debug, Default, PartialEq, Eq)]
 pub struct CountLength(pub u32);
 
 impl Sink for CountLength {

@@ -42,6 +42,7 @@ impl<'a> Sink for SliceSink<'a> {
     }
 
     fn put(&mut self, run: &[u8]) -> Result<(), Full> {
+        // Tried: `get_mut(self.at..end)` with `ok_or(Full)?` or `let else` in place of the test. The proof of what stays in the memory did not close.
         if run.len() > self.out.len() - self.at {
             return Err(Full);
         }

@@ -1,7 +1,9 @@
 // Gathers the numbers of the spans of a payload.
+ghost use Rattle.std.specs.Prelude.{◌≡◌, OnOk, OnErr, ◌++◌, ◌∷◌, []};
+
 use crate::refusal::Refusal;
 use listing::row::SpanRow;
-use reading::rows::RowReceiver;
+use reading::receiver::RowReceiver;
 use std::alloc::{AllocError, Global};
 
 // How many traces and spans are gathered at most.
@@ -10,13 +12,14 @@ pub const MAX_TRACES: usize = 64;
 pub const MAX_SPANS: usize = 512;
 
 // Two tables of a fixed size, made at set up: so a reading takes no memory, and a trace is no vector of its own.
+// A capacity is exact, as `with_capacity` promises, and so is the limit.
 #[derive(Drop)]
 pub struct Gatherer {
     pub rows: Vec<SpanRow>,
     // 0, and for each trace how many rows there are up to its end
     pub bounds: Vec<usize>,
-    // whether there was more than is gathered
-    full: bool,
+    // refused once there was more than is gathered
+    room: Result<(), Refusal>,
 }
 
 impl Gatherer {
@@ -27,33 +30,45 @@ impl Gatherer {
         Ok(Gatherer {
             rows,
             bounds,
-            full: false,
+            room: Ok(()),
         })
     }
 
     // Refuses where there was more than is gathered at most.
-    pub fn check_room(&self) -> Result<(), Refusal> {
-        if self.full {
-            return Err(Refusal::Shortage);
-        }
-        Ok(())
+    pub fn check_room(&self) -> Result<(), Refusal>
+        ensures { result ≡ self.now.room }
+    {
+        self.room
     }
 }
 
+// Appends to a table where it has room; it takes no memory.
+fn push_in_room<T: Drop>(table: &mut Vec<T>, one: T) -> Result<(), Refusal>
+    ensures pushed { OnOk result (table.new.items ≡ table.old.items ++ one ∷ []) }
+    ensures full { OnErr result (table.new ≡ table.old) }
+{
+    if table.len() >= table.capacity() {
+        return Err(Refusal::Shortage);
+    }
+    table.push_reserved(one);
+    Ok(())
+}
+
 impl RowReceiver for Gatherer {
+    ghost Meaning = { Unit {0} };
+
+    ghost state = { λ _. tt };
+
+    ghost rowed = { λ m _. m };
+
+    ghost ended = { λ m. m };
+
     fn span(&mut self, row: SpanRow) {
-        if self.rows.len() < self.rows.capacity() {
-            self.rows.push_reserved(row);
-        } else {
-            self.full = true;
-        }
+        self.room = self.room.and(push_in_room(&mut self.rows, row));
     }
 
     fn trace(&mut self) {
-        if self.bounds.len() < self.bounds.capacity() {
-            self.bounds.push_reserved(self.rows.len());
-        } else {
-            self.full = true;
-        }
+        let end = self.rows.len();
+        self.room = self.room.and(push_in_room(&mut self.bounds, end));
     }
 }

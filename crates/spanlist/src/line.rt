@@ -5,7 +5,7 @@ use std::fmt;
 // The names of the columns.
 pub const HEADER: &str = "trace,span,trace_id,span_id,parent_id,start,duration,error,parent";
 
-#[derive(Clone, Copy)]
+#[derive(Clone, Copy, Debug, PartialEq, Eq)]
 pub struct Line {
     // the number of the trace, and of the span in its trace
     pub trace: usize,

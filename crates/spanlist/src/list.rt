@@ -18,14 +18,13 @@ fn list_trace(
     lines: &mut Vec<Line>,
 ) -> Result<(), Refusal> {
     let parents = list_parents(heap, rows)?;
-    for (span, (row, parent)) in rows.iter().zip(parents.iter()).enumerate() {
-        lines.push(Line {
-            trace,
-            span,
-            row: *row,
-            parent: *parent,
-        })?;
-    }
+    let spans = rows.iter().zip(parents.iter()).enumerate();
+    lines.extend(spans.map(|(span, (row, parent))| Line {
+        trace,
+        span,
+        row: *row,
+        parent: *parent,
+    }))?;
     Ok(())
 }
 

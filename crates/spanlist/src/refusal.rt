@@ -4,6 +4,7 @@ ghost use Rattle.spanlist.specs.declared.refusal.Refusal.TheVariants.{Fault as O
 ghost use Rattle.spanlist.specs.Refusals.{refusal_number};
 
 use faults::PayloadFault;
+use keyed::list::Shortage;
 use std::alloc::{AllocError, AllocFailed};
 
 #[derive(Clone, Copy, Debug, PartialEq, Eq)]
@@ -19,19 +20,20 @@ pub enum Refusal {
 }
 
 impl Refusal {
-    // The number of the refusal; want of memory has none.
+    // The number by which documents know the refusal, a rule of the project; want of memory has none.
     pub fn number(self) -> Option<u8>
         ensures { result ≡ refusal_number self }
     {
         match self {
             Refusal::Fault(fault) => Some(fault.cause().number()),
-            Refusal::Shortage => Some(6),
+            Refusal::Shortage => Some(Shortage.number()),
             Refusal::TooLong => Some(8),
             Refusal::Memory => None,
         }
     }
 }
 
+// Each `From` is written out: it says what it gives, which a derived one does not.
 impl From<PayloadFault> for Refusal {
     ghost from_gives = { λ e r. r ≡ OfReading e };
 
@@ -48,6 +50,7 @@ impl From<AllocError> for Refusal {
     }
 }
 
+// A push that fails gives back what it was to push; here no code pushes so, but a caller may.
 impl<T: Drop> From<AllocFailed<T>> for Refusal {
     ghost from_gives = { λ _ r. r ≡ NoMemory };
 

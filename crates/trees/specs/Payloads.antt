@@ -17,7 +17,9 @@ use Rattle.faults.specs.declared.SpanFault.TheVariants as span_fault
 use Rattle.faults.specs.Faults.{as_dictionary, in_dictionary, in_payload, in_span, counted}
 use Rattle.trees.specs.declared.keys.TextKey.{TextKey}
 use Rattle.trees.specs.declared.keys.TextKey.TheVariants as text_key
+use Rattle.trees.specs.declared.keys.IdKey.{IdKey}
 use Rattle.trees.specs.declared.keys.IdKey.TheVariants as id_key
+use Rattle.trees.specs.declared.keys.SignedKey.{SignedKey}
 use Rattle.trees.specs.declared.keys.SignedKey.TheVariants as signed_key
 use Rattle.trees.specs.declared.keys.PairKey.TheVariants as pair_key
 use Rattle.trees.specs.Records.{into, nullable, a_key, u64_range, i64_range, i32_range, texts_map, metrics_map, parts_map, index_texts_map, index_metrics_map, a_link, an_event}
@@ -29,6 +31,13 @@ use Rattle.trees.specs.Tree.{SpanField, text, id, signed, pairs, links, events, 
 abbrev pub text_field : TextKey → List ℕ → ℕ → Outcome ItemFault SpanField
 text_field k = nullable (text k None) (λ bytes at. into (λ x. text k (Some x)) (an_item item_kind.Text bytes at))
 
+-- a number without a sign, and one with 64 bits and a sign; 0 for null
+abbrev pub id_field : IdKey → List ℕ → ℕ → Outcome ItemFault SpanField
+id_field k bytes at = into (id k) (nullable (pos 0) u64_range bytes at)
+
+abbrev pub time_field : SignedKey → List ℕ → ℕ → Outcome ItemFault SpanField
+time_field k bytes at = into (signed k) (nullable (pos 0) i64_range bytes at)
+
 abbrev pub so_many : {E A : Type 0} → (ItemFault → SpanFault) → (E → SpanFault) → (List ℕ → ℕ → Outcome E A) → List ℕ → ℕ → Outcome SpanFault (List A)
 so_many own within one bytes at = then (raised own (a_length kind.Array (all_causes InvalidType) bytes at)) (λ n at₁. raised within (times n (one bytes) at₁))
 
@@ -37,11 +46,11 @@ field_by span_key.Service bytes at = raised span_fault.Own (text_field text_key.
 field_by span_key.Name bytes at = raised span_fault.Own (text_field text_key.Name bytes at)
 field_by span_key.Resource bytes at = raised span_fault.Own (text_field text_key.Resource bytes at)
 field_by span_key.Type bytes at = raised span_fault.Own (text_field text_key.Type bytes at)
-field_by span_key.TraceId bytes at = raised span_fault.Own (into (id id_key.TraceId) (nullable (pos 0) u64_range bytes at))
-field_by span_key.SpanId bytes at = raised span_fault.Own (into (id id_key.SpanId) (nullable (pos 0) u64_range bytes at))
-field_by span_key.ParentId bytes at = raised span_fault.Own (into (id id_key.ParentId) (nullable (pos 0) u64_range bytes at))
-field_by span_key.Start bytes at = raised span_fault.Own (into (signed signed_key.Start) (nullable (pos 0) i64_range bytes at))
-field_by span_key.Duration bytes at = raised span_fault.Own (into (signed signed_key.Duration) (nullable (pos 0) i64_range bytes at))
+field_by span_key.TraceId bytes at = raised span_fault.Own (id_field id_key.TraceId bytes at)
+field_by span_key.SpanId bytes at = raised span_fault.Own (id_field id_key.SpanId bytes at)
+field_by span_key.ParentId bytes at = raised span_fault.Own (id_field id_key.ParentId bytes at)
+field_by span_key.Start bytes at = raised span_fault.Own (time_field signed_key.Start bytes at)
+field_by span_key.Duration bytes at = raised span_fault.Own (time_field signed_key.Duration bytes at)
 field_by span_key.Error bytes at = raised span_fault.Own (into (signed signed_key.Error) (nullable (pos 0) i32_range bytes at))
 field_by span_key.Meta bytes at = raised span_fault.Own (into (pairs pair_key.Meta) (nullable [] texts_map bytes at))
 field_by span_key.Metrics bytes at = raised span_fault.Own (into (pairs pair_key.Metrics) (nullable [] metrics_map bytes at))

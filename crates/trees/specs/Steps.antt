@@ -14,6 +14,8 @@ use Rattle.trees.specs.declared.keys.PairKey.{PairKey}
 use Rattle.trees.specs.declared.keys.LinkIdKey.{LinkIdKey}
 use Rattle.trees.specs.declared.step.Step.{Step}
 use Rattle.trees.specs.declared.step.Step.TheVariants as step
+use Rattle.trees.specs.declared.step.AttributeArrayValue.{AttributeArrayValue}
+use Rattle.trees.specs.declared.step.AttributeArrayValue.TheVariants as single
 use Rattle.trees.specs.declared.step.ValueType.{ValueType}
 use Rattle.trees.specs.declared.step.ValueType.TheVariants as value_type
 use Rattle.trees.specs.declared.keys.PairKey.TheVariants.{LinkAttributes}
@@ -54,6 +56,13 @@ type_code value_type.Integer = 2
 type_code value_type.Double = 3
 type_code value_type.Array = 4
 
+-- a single value, with bytes in place of references
+abbrev pub single_of : AttributeArrayValue → Single
+single_of (single.String p) = string (piece_of p)
+single_of (single.Boolean b) = truth b
+single_of (single.Integer z) = whole z
+single_of (single.Double b) = double b
+
 -- the number with a sign that a time is
 abbrev pub signed_of : TimeKey → SignedKey
 signed_of time_key.Start = signed_key.Start
@@ -67,7 +76,7 @@ on_step (step.Pair k x y) = on_pair k (shown x) (shown y)
 on_step (step.Tracestate p) = on_tracestate (piece_of p)
 on_step (step.EventName p) = on_event_name (piece_of p)
 on_step (step.Attribute p) = on_attribute (piece_of p)
-on_step (step.StringValue p) = on_value (string (piece_of p))
+on_step (step.Value v) = on_value (single_of v)
 on_step step.BeginSpan = begin_span
 on_step (step.Id k n) = on_id k (pos n)
 on_step (step.Signed k z) = on_signed (signed_of k) z
@@ -82,9 +91,6 @@ on_step step.BeginEvents = begin_events
 on_step step.BeginEvent = begin_event
 on_step (step.Time n) = on_time (pos n)
 on_step step.BeginAttributes = begin_attributes
-on_step (step.BooleanValue b) = on_value (truth b)
-on_step (step.IntegerValue z) = on_value (whole z)
-on_step (step.DoubleValue b) = on_value (double b)
 on_step (step.EndAttribute t) = end_attribute (type_code t)
 on_step step.EndEvent = end_event
 on_step step.EndSpan = end_span

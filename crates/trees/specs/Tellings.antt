@@ -1,6 +1,6 @@
 -- What is read from a buffer and told to a receiver. Assumes nothing.
-use Rattle.std.specs.Prelude.{◌≡◌, ℕ, List, length, Ok, Err, Result}
-use Rattle.items.specs.Reads.{Outcome, got, fault, then, Takes}
+use Rattle.std.specs.Prelude.{◌≡◌, ℕ, List, length, Ok, Result, MatchResult}
+use Rattle.items.specs.Reads.{Outcome, fault, Takes}
 use Rattle.trees.specs.declared.receiver.Receiver.{Ghosts}
 use Rattle.trees.specs.declared.telling.Telling.{Telling}
 use Rattle.trees.specs.Steps.{On, tell_payload}
@@ -21,10 +21,4 @@ module _ {R : Type 0} (receiver : Ghosts R) where
 
   -- a payload is told whole; the answer is the number of its traces, and the place behind it
   abbrev pub Loads : {E : Type 0} (window : List ℕ) → Result (ℕ × ℕ) E → (from to : R) → Outcome E Payload → Type 0
-  Loads window (Ok p) from to o = Takes (tell_payload (receiver.act window)) length (receiver.state from) (receiver.state to) (Ok p.0) p.1 o
-  Loads window (Err e) from to o = o ≡ fault e
-
--- the same of a payload of which only the answer is said
-abbrev pub Answers : {E : Type 0} → Result (ℕ × ℕ) E → Outcome E Payload → Type 0
-Answers (Ok p) o = then o (λ ts next. got (length ts) next) ≡ got p.0 p.1
-Answers (Err e) o = o ≡ fault e
+  Loads window r from to o = MatchResult r (λ p. Takes (tell_payload (receiver.act window)) length (receiver.state from) (receiver.state to) (Ok p.0) p.1 o) (λ e. o ≡ fault e)

@@ -1,7 +1,8 @@
 // The fields of records, by what they hold.
+// Beside the keys of crate `names`, which are one by one as the format has them: keys in groups there would not be the format's, and are no plainer.
 
 // The texts of a span.
-#[derive(Clone, Copy)]
+#[derive(Clone, Copy, Debug, PartialEq, Eq)]
 pub enum TextKey {
     Service,
     Name,
@@ -10,30 +11,30 @@ pub enum TextKey {
 }
 
 // The numbers of a span without a sign.
-#[derive(Clone, Copy)]
+#[derive(Clone, Copy, Debug, PartialEq, Eq)]
 pub enum IdKey {
     TraceId,
     SpanId,
     ParentId,
 }
 
-// The numbers of a span with a sign.
-#[derive(Clone, Copy)]
+// The numbers of a span with a sign, as the definitions say them.
+#[derive(Clone, Copy, Debug, PartialEq, Eq)]
 pub enum SignedKey {
     Start,
     Duration,
     Error,
 }
 
-// Those of 64 bits.
-#[derive(Clone, Copy)]
+// Those of 64 bits, as a step tells them; the error has 32 and a step of its own.
+#[derive(Clone, Copy, Debug, PartialEq, Eq)]
 pub enum TimeKey {
     Start,
     Duration,
 }
 
 // The maps of pairs: three of a span, and the attributes of a link.
-#[derive(Clone, Copy)]
+#[derive(Clone, Copy, Debug, PartialEq, Eq)]
 pub enum PairKey {
     Meta,
     Metrics,
@@ -42,7 +43,7 @@ pub enum PairKey {
 }
 
 // The ids of a link.
-#[derive(Clone, Copy)]
+#[derive(Clone, Copy, Debug, PartialEq, Eq)]
 pub enum LinkIdKey {
     TraceId,
     TraceIdHigh,

@@ -1,6 +1,7 @@
 // The steps of a reading, one for each thing that was read, in the order of the payload.
 ghost use Rattle.std.specs.Prelude.{◌≡◌};
-ghost use Rattle.trees.specs.Steps.{type_code};
+ghost use Rattle.trees.specs.Steps.{type_code, single_of};
+ghost use Rattle.trees.specs.Tree.{type_number};
 
 use crate::keys::{IdKey, LinkIdKey, PairKey, TextKey, TimeKey};
 use items::item::Item;
@@ -25,8 +26,31 @@ impl ValueType {
     }
 }
 
+// A single value of an attribute, which may be an element of an array.
+#[derive(Clone, Copy, Debug, PartialEq, Eq)]
+pub enum AttributeArrayValue<'a> {
+    String(Part<'a>),
+    Boolean(bool),
+    Integer(i64),
+    // a double by its 64 bits
+    Double(u64),
+}
+
+impl<'a> AttributeArrayValue<'a> {
+    pub fn value_type(self) -> ValueType
+        ensures { type_code result ≡ type_number (single_of self.entry) }
+    {
+        match self {
+            AttributeArrayValue::String(_) => ValueType::String,
+            AttributeArrayValue::Boolean(_) => ValueType::Boolean,
+            AttributeArrayValue::Integer(_) => ValueType::Integer,
+            AttributeArrayValue::Double(_) => ValueType::Double,
+        }
+    }
+}
+
 // A step. Texts and byte parts borrow the window.
-#[derive(Clone, Copy)]
+#[derive(Clone, Copy, Debug, PartialEq, Eq)]
 pub enum Step<'a> {
     // a text of the dictionary
     Entry(Part<'a>),
@@ -38,8 +62,8 @@ pub enum Step<'a> {
     EventName(Part<'a>),
     // the key of an attribute
     Attribute(Part<'a>),
-    // a text that is an attribute's value, or an element of it
-    StringValue(Part<'a>),
+    // an attribute's value, or an element of it
+    Value(AttributeArrayValue<'a>),
     BeginSpan,
     Id(IdKey, u64),
     Signed(TimeKey, i64),
@@ -54,10 +78,6 @@ pub enum Step<'a> {
     BeginEvent,
     Time(u64),
     BeginAttributes,
-    BooleanValue(bool),
-    IntegerValue(i64),
-    // a double by its 64 bits
-    DoubleValue(u64),
     // an attribute's values are whole; its type
     EndAttribute(ValueType),
     EndEvent,

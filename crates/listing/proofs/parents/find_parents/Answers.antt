@@ -1,8 +1,6 @@
 use Rattle.std.proofs.Common.{◌≡◌, ◌<◌, map, length, take, ap, ◌∙◌, arith}
 use Rattle.std.proofs.lemmas.List.{drop-set-lt, take_more_set, take_all}
-use Rattle.listing.specs.declared.row.SpanRow.{SpanRow}
-use Rattle.listing.specs.Parents.{first_with}
-use Rattle.listing.proofs.Firsts.{all_parents, one_more}
+use Rattle.listing.proofs.Firsts.{parent_in, all_parents, one_more}
 use Rattle.listing.proofs.parents.find_parents.Goals as goal
 
 pub loop-i-preserved : goal.loop-i-preserved
@@ -13,7 +11,7 @@ loop-i-preserved c =
     let inv = c.loop-i.invariant in
     let within : i < length parents = omega arith in
     record {
-      filled = one_more (λ (s : SpanRow). first_with s.parent_id spans) spans i _ (take i parents) _ c.get.result c.loop-i-test.true (take_more_set parents i c.get.result within) inv.filled (c.get.ensures ∙ c.index_spans.ensures _);
+      filled = one_more (parent_in spans) spans i _ (take i parents) _ c.get.result c.loop-i-test.true (take_more_set parents i c.get.result within) inv.filled (c.get.ensures ∙ c.index_spans.ensures _);
       behind = drop-set-lt (length spans) parents i c.get.result c.loop-i-test.true ∙ inv.behind;
     }
 
@@ -26,6 +24,6 @@ returns-clause-found c =
     record {
       memory = omega arith;
       room = omega arith;
-      front = all_parents spans _ (ap (λ n. take n parents) end ∙ c.loop-i.invariant.filled ∙ ap (map (λ (s : SpanRow). first_with s.parent_id spans)) (take_all i spans c.loop-i-test.false));
+      front = all_parents spans _ (ap (λ n. take n parents) end ∙ c.loop-i.invariant.filled ∙ ap (map (parent_in spans)) (take_all i spans c.loop-i-test.false));
       behind = c.loop-i.invariant.behind;
     }

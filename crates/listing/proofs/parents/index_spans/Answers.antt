@@ -1,10 +1,7 @@
 use Rattle.std.proofs.Common.{◌≡◌, ℕ, ◌<◌, cond, nat_eq, length, drop, Some, Ok, Err, Result, sym, ap, ◌∙◌, arith, MatchResult}
-use Rattle.std.proofs.lemmas.Iterator.Adapters.{position_from-zero}
-use Rattle.std.specs.List.{position_from}
 use Rattle.keyed.specs.Keyed.{Put}
 use Rattle.keyed.proofs.Seeks.{kept_room}
-use Rattle.listing.specs.declared.row.SpanRow.{SpanRow}
-use Rattle.listing.proofs.Firsts.{whole_front, one_longer, found_front}
+use Rattle.listing.proofs.Firsts.{has_number, first_from, first_from_start, whole_front, one_longer, found_front}
 use Rattle.listing.proofs.parents.index_spans.Goals as goal
 
 -- an entry is free
@@ -29,8 +26,8 @@ loop-i-preserved c =
     record {
       listed = λ id.
           finds id ∙ ap (λ o. cond (nat_eq span.span_id id) (Some c.in-Some.i) o) (inv.listed id)
-          ∙ ap (λ i. cond (nat_eq span.span_id id) (Some i) (position_from (λ (s : SpanRow). nat_eq s.span_id id) (length rest) (drop (length rest) spans))) place
-          ∙ sym (found_front spans rest front span inv.whole steps.1.0 (λ (s : SpanRow). nat_eq s.span_id id));
+          ∙ ap (λ i. cond (nat_eq span.span_id id) (Some i) (first_from id (length rest) (drop (length rest) spans))) place
+          ∙ sym (found_front spans rest front span inv.whole steps.1.0 (has_number id));
       whole = whole_front spans rest front span inv.whole steps.1.0;
       count = steps.0 ∙ inv.count;
       few = omega (arith, room.1, ap (λ (p : Put ℕ ℕ). p.used) c.put.ensures.put, longer, inv.few);
@@ -41,4 +38,4 @@ pub returns : goal.returns
 returns c id =
     let spans = c.args.spans.now in
     let none : length c.loop-i.i-iterator.iter.iter.rest.now ≡ 0 = omega (arith, c.in-None.ensures.steps.1) in
-    c.loop-i.invariant.listed id ∙ ap (λ n. position_from (λ (s : SpanRow). nat_eq s.span_id id) n (drop n spans)) none ∙ sym (position_from-zero (λ (s : SpanRow). nat_eq s.span_id id) spans)
+    c.loop-i.invariant.listed id ∙ ap (λ n. first_from id n (drop n spans)) none ∙ sym (first_from_start id spans)

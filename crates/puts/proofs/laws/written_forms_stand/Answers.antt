@@ -1,5 +1,8 @@
-use Rattle.std.proofs.Common.{refl, inl, inr}
+use Rattle.std.proofs.Common.{refl}
 use Rattle.puts.proofs.Forms.{integers_encoded, texts_encoded, binaries_encoded, arrays_encoded, maps_encoded, booleans_encoded, signed_encoded}
+use Rattle.puts.specs.contracts.fixed.U8Fixed.TheImpl.Laws as bytes
+use Rattle.puts.specs.contracts.fixed.U32Fixed.TheImpl.Laws as words
+use Rattle.puts.specs.contracts.fixed.U64Fixed.TheImpl.Laws as longs
 use Rattle.puts.proofs.laws.written_forms_stand.Goals as goal
 
 pub returns : goal.returns
@@ -11,9 +14,9 @@ returns c =
       arrays = arrays_encoded;
       maps = maps_encoded;
       booleans = booleans_encoded;
-      bytes = λ n h. inl (inr (inl (h, refl)));
-      words = λ n h. inl (inr (inr (inr (inl (h, refl)))));
-      longs = λ n h. inl (inr (inr (inr (inr (inl (h, refl))))));
+      bytes = bytes.encoded-law;
+      words = words.encoded-law;
+      longs = longs.encoded-law;
       signed = signed_encoded;
       doubles = λ b h. (h, refl);
     }

@@ -1,26 +1,15 @@
-use Rattle.std.proofs.Common.{◌∙◌, refl}
-use Rattle.std.proofs.lemmas.Result.{err_from_is_err_and}
-use Rattle.items.specs.Reads.{nothing}
-use Rattle.items.proofs.Turns.{start, turn, breaks_plain, ends_plain, answered}
+use Rattle.std.proofs.Common.{sym, subst}
+use Rattle.items.specs.Reads.{nothing, fold, Takes}
+use Rattle.items.proofs.Turns.{plain}
 use Rattle.trees.proofs.repeated.read_times.Goals as goal
 
-pub loop-init : goal.loop-init
-loop-init g c = record { onward = start; lender = refl }
-
-pub loop-preserved : goal.loop-preserved
-loop-preserved g c = record {
-  onward = turn nothing tt c.loop.invariant.onward c.loop-test.true c.in_ok-read.ensures.takes c.read.ensures.window;
-  lender = c.read.ensures.lender ∙ c.loop.invariant.lender;
-}
-
-pub returns-in_err-read : goal.returns-in_err-read
-returns-in_err-read g c =
-    let p = err_from_is_err_and c.from_residual.result c.from_residual.ensures.1 in
-    record {
-      takes = rw (p.1, p.2) (breaks_plain c.loop.invariant.onward c.loop-test.true c.in_err-read.ensures.takes);
-      window = c.read.ensures.window ∙ c.loop.invariant.onward.same;
-      lender = c.read.ensures.lender ∙ c.loop.invariant.lender;
-    }
-
 pub returns : goal.returns
-returns g c = record { takes = answered _ _ _ _ (ends_plain c.loop.invariant.onward c.loop-test.false); window = c.loop.invariant.onward.same; lender = c.loop.invariant.lender }
+returns g c =
+    let from = c.args.from.now in
+    let bytes = from.buf.window.now in
+    let e = plain (g.T.Repeated.one c.args.kind.now bytes) c.args.count 0 from.buf.pos in
+    record {
+      takes = subst (Takes (fold (g.T.Repeated.tell c.args.kind.now (g.R.Receiver.act bytes))) nothing (g.R.Receiver.state from.to.now) (g.R.Receiver.state c.read_numbered.new.from.to.now) c.read_numbered.result c.read_numbered.new.from.buf.pos) (sym e) c.read_numbered.ensures.takes;
+      window = c.read_numbered.ensures.window;
+      lender = c.read_numbered.ensures.lender;
+    }
