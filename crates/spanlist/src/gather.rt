@@ -1,5 +1,5 @@
 // Gathers the numbers of the spans of a payload.
-ghost use Rattle.std.specs.Prelude.{◌≡◌, OnOk, OnErr, ◌++◌, ◌∷◌, []};
+ghost use Rattle.std.specs.Prelude.{◌≡◌, OnOk, OnErr, Ok, Err, ◌++◌, ◌∷◌, [], nat_lt, if◌then◌else◌, vec_len, vec_capacity};
 
 use crate::refusal::Refusal;
 use listing::row::SpanRow;
@@ -46,6 +46,7 @@ impl Gatherer {
 fn push_in_room<T: Drop>(table: &mut Vec<T>, one: T) -> Result<(), Refusal>
     ensures pushed { OnOk result (table.new.items ≡ table.old.items ++ one ∷ []) }
     ensures full { OnErr result (table.new ≡ table.old) }
+    ensures answer { result ≡ (if nat_lt (vec_len table.old) (vec_capacity table.old) then Ok tt else Err Refusal.Shortage) }
 {
     if table.len() >= table.capacity() {
         return Err(Refusal::Shortage);
