@@ -7,24 +7,26 @@ use Rattle.faults.specs.declared.AttributeFault.{AttributeFault}
 use Rattle.faults.specs.declared.AttributeFault.TheVariants.{Own}
 use Rattle.trees.specs.Records.{fields_of, an_attribute_field, attribute_value, into, ruled, verdict}
 use Rattle.trees.specs.Steps.{On, on_attribute, end_attribute, later, or_zero, given_by, valued_by, tell_attribute_field, tell_attribute}
+use Rattle.trees.specs.declared.step.ValueType.{ValueType}
 use Rattle.trees.specs.Tree.{AttributeField, Attribute, attribute}
 use Rattle.attributes.specs.declared.judge.Field.{Field}
 use Rattle.attributes.specs.Fields.{given_of, valued_of, attribute_field}
-use Rattle.attributes.proofs.Judged.{any_valued_told, any_given_told, verdict_type}
+use Rattle.attributes.proofs.Judged.{numbered, later_number, later_numbered, any_valued_told, any_given_told, verdict_type}
 
-abbrev told_fields : Field → Field → Result ℕ DecodeError
-told_fields a b = verdict (later (valued_of a) (valued_of b)) (later (given_of a) (given_of b))
+abbrev told_fields : Field ValueType → Field ValueType → Result ℕ DecodeError
+told_fields a b = verdict (later_number a b) (later (given_of a) (given_of b))
 
 abbrev tree_fields : AttributeField → AttributeField → Result ℕ DecodeError
 tree_fields a b = verdict (later (valued_by a) (valued_by b)) (later (given_by a) (given_by b))
 
 -- the judgement of the fields that were told is that of the tree's
-pub told_judgement : (x y : AttributeField) {a b : Field} → attribute_field x ≡ a → attribute_field y ≡ b → tree_fields x y ≡ told_fields a b
+pub told_judgement : (x y : AttributeField) {a b : Field ValueType} → attribute_field x ≡ a → attribute_field y ≡ b → tree_fields x y ≡ told_fields a b
 told_judgement x y p q =
     ap (λ v. verdict (later v (valued_by y)) (later (given_by x) (given_by y))) (any_valued_told x)
-    ∙ ap (λ v. verdict (later (valued_of (attribute_field x)) v) (later (given_by x) (given_by y))) (any_valued_told y)
-    ∙ ap (λ v. verdict (later (valued_of (attribute_field x)) (valued_of (attribute_field y))) (later v (given_by y))) (any_given_told x)
-    ∙ ap (λ v. verdict (later (valued_of (attribute_field x)) (valued_of (attribute_field y))) (later (given_of (attribute_field x)) v)) (any_given_told y)
+    ∙ ap (λ v. verdict (later (numbered (attribute_field x)) v) (later (given_by x) (given_by y))) (any_valued_told y)
+    ∙ ap (λ v. verdict v (later (given_by x) (given_by y))) (later_numbered (valued_of (attribute_field x)) (valued_of (attribute_field y)))
+    ∙ ap (λ v. verdict (later_number (attribute_field x) (attribute_field y)) (later v (given_by y))) (any_given_told x)
+    ∙ ap (λ v. verdict (later_number (attribute_field x) (attribute_field y)) (later (given_of (attribute_field x)) v)) (any_given_told y)
     ∙ ap (λ f. told_fields f (attribute_field y)) p ∙ ap (told_fields _) q
 
 module _ {M : Type 0} (act : M → On → M) (key : Piece) (bytes : List ℕ) (at : ℕ) {at₁ at₂ at₃ : ℕ} (x y : AttributeField) {u : Unit {0}} (p : fields_of 2 bytes at ≡ got u at₁) (q : an_attribute_field bytes at₁ ≡ got x at₂) (r : an_attribute_field bytes at₂ ≡ got y at₃) where

@@ -1,5 +1,6 @@
 -- What two fields come to. Assumes nothing.
 use Rattle.std.proofs.Common.{◌≡◌, ℕ, zero, suc, ◌-◌, ◌<◌, Bool, true, false, cond, eqb, List, ◌∷◌, Some, None, Ok, Err, Option, Result, refl, ap, ◌∙◌, arith}
+use Rattle.std.specs.Option.{option_map}
 use Rattle.items.specs.declared.fault.DecodeError.{DecodeError}
 use Rattle.items.specs.declared.fault.ItemFault.{ItemFault}
 use Rattle.items.specs.Reads.{Outcome, got, fault, then, raised, times, fold, with, nothing, Takes}
@@ -8,6 +9,7 @@ use Rattle.faults.specs.declared.ArrayValueFault.{ArrayValueFault}
 use Rattle.faults.specs.Faults.{in_array_value}
 use Rattle.trees.specs.Records.{fields_of, an_element_field, an_element, elements, into, ruled, verdict, alike, also, element_type}
 use Rattle.trees.specs.Steps.{On, type_code, later, or_zero, given_in, valued_in, given_by, valued_by, tell_element_field, tell_element}
+use Rattle.trees.specs.declared.step.ValueType.{ValueType}
 use Rattle.trees.specs.Tree.{type_number, Single, string, truth, whole, double, ElementField, given, value, Element, element, AttributeField, plain, array}
 use Rattle.attributes.specs.declared.judge.Field.{Field}
 use Rattle.attributes.specs.Fields.{given_of, valued_of, type_of, element_field, attribute_field}
@@ -18,7 +20,11 @@ type_said (truth b) = refl
 type_said (whole z) = refl
 type_said (double b) = refl
 
-pub valued_told : (f : ElementField) → valued_in f ≡ valued_of (element_field f)
+-- the type number of the value that is kept
+abbrev pub numbered : Field ValueType → Option ℕ
+numbered f = option_map type_code (valued_of f)
+
+pub valued_told : (f : ElementField) → valued_in f ≡ numbered (element_field f)
 valued_told (given n) = refl
 valued_told (value v) = ap Some (type_said v)
 
@@ -26,7 +32,7 @@ pub given_told : (f : ElementField) → given_in f ≡ given_of (element_field f
 given_told (given n) = refl
 given_told (value v) = refl
 
-pub any_valued_told : (f : AttributeField) → valued_by f ≡ valued_of (attribute_field f)
+pub any_valued_told : (f : AttributeField) → valued_by f ≡ numbered (attribute_field f)
 any_valued_told (plain f) = valued_told f
 any_valued_told (array es) = refl
 
@@ -63,19 +69,28 @@ pub element_read : (first : Option ℕ) (bytes : List ℕ) (at at₁ at₂ at₃
     → an_element first bytes at ≡ raised in_array_value (into (λ _. element a b) (ruled at at₃ (also (verdict (later (valued_in a) (valued_in b)) (later (given_in a) (given_in b))) (alike first))))
 element_read first bytes at at₁ at₂ at₃ a b p q r = rw (p, q, r)
 
-abbrev told_fields : Option ℕ → Field → Field → Result ℕ DecodeError
-told_fields first a b = also (verdict (later (valued_of a) (valued_of b)) (later (given_of a) (given_of b))) (alike first)
+-- the type number of the later of two values
+abbrev pub later_number : Field ValueType → Field ValueType → Option ℕ
+later_number a b = option_map type_code (later (valued_of a) (valued_of b))
+
+pub later_numbered : (x y : Option ValueType) → later (option_map type_code x) (option_map type_code y) ≡ option_map type_code (later x y)
+later_numbered x None = refl
+later_numbered x (Some t) = refl
+
+abbrev told_fields : Option ℕ → Field ValueType → Field ValueType → Result ℕ DecodeError
+told_fields first a b = also (verdict (later_number a b) (later (given_of a) (given_of b))) (alike first)
 
 abbrev tree_fields : Option ℕ → ElementField → ElementField → Result ℕ DecodeError
 tree_fields first a b = also (verdict (later (valued_in a) (valued_in b)) (later (given_in a) (given_in b))) (alike first)
 
 -- the judgement of the fields that were told is that of the tree's
-pub told_verdict : (first : Option ℕ) (x y : ElementField) {a b : Field} → element_field x ≡ a → element_field y ≡ b → tree_fields first x y ≡ told_fields first a b
+pub told_verdict : (first : Option ℕ) (x y : ElementField) {a b : Field ValueType} → element_field x ≡ a → element_field y ≡ b → tree_fields first x y ≡ told_fields first a b
 told_verdict first x y p q =
     ap (λ v. also (verdict (later v (valued_in y)) (later (given_in x) (given_in y))) (alike first)) (valued_told x)
-    ∙ ap (λ v. also (verdict (later (valued_of (element_field x)) v) (later (given_in x) (given_in y))) (alike first)) (valued_told y)
-    ∙ ap (λ v. also (verdict (later (valued_of (element_field x)) (valued_of (element_field y))) (later v (given_in y))) (alike first)) (given_told x)
-    ∙ ap (λ v. also (verdict (later (valued_of (element_field x)) (valued_of (element_field y))) (later (given_of (element_field x)) v)) (alike first)) (given_told y)
+    ∙ ap (λ v. also (verdict (later (numbered (element_field x)) v) (later (given_in x) (given_in y))) (alike first)) (valued_told y)
+    ∙ ap (λ v. also (verdict v (later (given_in x) (given_in y))) (alike first)) (later_numbered (valued_of (element_field x)) (valued_of (element_field y)))
+    ∙ ap (λ v. also (verdict (later_number (element_field x) (element_field y)) (later v (given_in y))) (alike first)) (given_told x)
+    ∙ ap (λ v. also (verdict (later_number (element_field x) (element_field y)) (later (given_of (element_field x)) v)) (alike first)) (given_told y)
     ∙ ap (λ f. told_fields first f (element_field y)) p ∙ ap (told_fields first _) q
 
 module _ {M : Type 0} (act : M → On → M) (first : Option ℕ) (bytes : List ℕ) (at : ℕ) {at₁ at₂ at₃ : ℕ} (x y : ElementField) {u : Unit {0}} (p : fields_of 2 bytes at ≡ got u at₁) (q : an_element_field bytes at₁ ≡ got x at₂) (r : an_element_field bytes at₂ ≡ got y at₃) where

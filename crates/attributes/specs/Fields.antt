@@ -2,23 +2,22 @@
 use Rattle.std.specs.Prelude.{ℕ, Some, None, Ok, Err, Option, Result}
 use Rattle.trees.specs.declared.step.ValueType.{ValueType}
 use Rattle.trees.specs.declared.step.ValueType.TheVariants as value_type
-use Rattle.trees.specs.Steps.{type_code}
 use Rattle.trees.specs.Tree.{Single, string, truth, whole, double, ElementField, given, value, AttributeField, plain, array}
 use Rattle.attributes.specs.declared.judge.Field.{Field}
 use Rattle.attributes.specs.declared.judge.Field.TheVariants.{Given, Valued}
 
-abbrev pub given_of : Field → Option ℕ
+abbrev pub given_of : {V : Type 0} → Field V → Option ℕ
 given_of (Given n) = Some n
 given_of (Valued t) = None
 
-abbrev pub valued_of : Field → Option ℕ
+abbrev pub valued_of : {V : Type 0} → Field V → Option V
 valued_of (Given n) = None
-valued_of (Valued t) = Some (type_code t)
+valued_of (Valued t) = Some t
 
--- an answer that is a type, by its number
-abbrev pub coded : {E : Type 0} → Result ValueType E → Result ℕ E
-coded (Ok t) = Ok (type_code t)
-coded (Err e) = Err e
+-- an answer by its number
+abbrev pub coded : {V E : Type 0} → (V → ℕ) → Result V E → Result ℕ E
+coded code (Ok t) = Ok (code t)
+coded code (Err e) = Err e
 
 abbrev pub type_of : Single → ValueType
 type_of (string p) = value_type.String
@@ -27,10 +26,10 @@ type_of (whole z) = value_type.Integer
 type_of (double b) = value_type.Double
 
 -- what is kept of a field for the judgement
-abbrev pub element_field : ElementField → Field
+abbrev pub element_field : ElementField → Field ValueType
 element_field (given n) = Given n
 element_field (value v) = Valued (type_of v)
 
-abbrev pub attribute_field : AttributeField → Field
+abbrev pub attribute_field : AttributeField → Field ValueType
 attribute_field (plain f) = element_field f
 attribute_field (array es) = Valued value_type.Array

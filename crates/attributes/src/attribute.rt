@@ -44,7 +44,7 @@ fn read_array<R: Receiver>(from: &mut Telling<'_, '_, R>) -> Result<(), Attribut
 fn read_by_key<R: Receiver>(
     key: AttributeAnyKey,
     from: &mut Telling<'_, '_, R>,
-) -> Result<Field, AttributeFault>
+) -> Result<Field<ValueType>, AttributeFault>
     ensures { Tells R.Receiver tell_attribute_field attribute_field result from.old from.new (attribute_field_by key) }
 {
     match key {
@@ -56,7 +56,9 @@ fn read_by_key<R: Receiver>(
     }
 }
 
-fn read_field<R: Receiver>(from: &mut Telling<'_, '_, R>) -> Result<Field, AttributeFault>
+fn read_field<R: Receiver>(
+    from: &mut Telling<'_, '_, R>,
+) -> Result<Field<ValueType>, AttributeFault>
     ensures { Tells R.Receiver tell_attribute_field attribute_field result from.old from.new an_attribute_field }
 {
     let key: AttributeAnyKey = read_key(&mut from.buf)?;
@@ -79,7 +81,7 @@ pub fn read_attribute<R: Receiver>(
     // By `match`: with `map_err` a closure stands between judgement and answer, and the proof did not close.
     match judge(a, b) {
         Ok(kind) => {
-            from.take(Step::EndAttribute(kind));
+            from.take(Step::EndAttribute(kind.number()));
             Ok(())
         }
         Err(cause) => Err(AttributeFault::Own(ItemFault { cause, place })),

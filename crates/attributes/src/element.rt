@@ -22,7 +22,7 @@ use trees::telling::Telling;
 pub fn read_value<R: Receiver>(
     key: AttributeArrayKey,
     from: &mut Telling<'_, '_, R>,
-) -> Result<Field, ItemFault>
+) -> Result<Field<ValueType>, ItemFault>
     ensures { Tells R.Receiver tell_element_field element_field result from.old from.new (element_field_by key) }
 {
     let value = match key {
@@ -41,7 +41,9 @@ pub fn read_value<R: Receiver>(
     Ok(Field::Valued(value.value_type()))
 }
 
-fn read_element_field<R: Receiver>(from: &mut Telling<'_, '_, R>) -> Result<Field, ItemFault>
+fn read_element_field<R: Receiver>(
+    from: &mut Telling<'_, '_, R>,
+) -> Result<Field<ValueType>, ItemFault>
     ensures { Tells R.Receiver tell_element_field element_field result from.old from.new an_element_field }
 {
     let key: AttributeArrayKey = read_key(&mut from.buf)?;
@@ -53,7 +55,7 @@ fn read_element<R: Receiver>(
     first: Option<ValueType>,
     from: &mut Telling<'_, '_, R>,
 ) -> Result<ValueType, ArrayValueFault>
-    ensures { Tells R.Receiver tell_element element_type (coded result) from.old from.new (an_element (option_map type_code first)) }
+    ensures { Tells R.Receiver tell_element element_type (coded type_code result) from.old from.new (an_element (option_map type_code first)) }
 {
     let place = from.buf.pos;
     read_fields(&mut from.buf, 2)?;

@@ -31,6 +31,8 @@ impl<T> Behind<T> {
 
 // The big-endian number that the bytes begin with, where there are enough of them.
 // Four arms, of one load each: std has `from_be_bytes` for each size and no trait over them; one body for all would be a fold, byte by byte, or a copy of varying length.
+// Inlined into `content` alone.
+#[inline(always)]
 fn big_endian(bytes: &[u8], width: Width) -> Option<u64>
     ensures value { result ≡ (if nat_le (wide width) (length bytes.now) then Some (big (take (wide width) bytes.now)) else None) }
     ensures bound { IfSome result (λ n. n < 256 ^ wide width) }
@@ -51,15 +53,14 @@ fn big_endian(bytes: &[u8], width: Width) -> Option<u64>
 
 impl<'a> Buffer<'a> {
     // The big-endian number behind the next item's first byte, which is not passed over; where the window is too short, the cause given.
+    // Inlined: what it answers is large, and each reader matches on it at once.
+    #[inline(always)]
     pub(crate) fn content(&self, width: Width, short: DecodeError) -> Result<Behind<u64>, ItemFault>
         ensures sees { Sees (λ n. n) result self.now (by_content short width (λ n. n)) }
         ensures bound { IfOk result (λ b. b.value < 256 ^ wide width) }
     {
-        let value = self
-            .window
-            .get(self.pos + 1..)
-            .and_then(|bytes| big_endian(bytes, width))
-            .ok_or(self.fault(short))?;
+        let bytes = self.window.get(self.pos + 1..).ok_or(self.fault(short))?;
+        let value = big_endian(bytes, width).ok_or(self.fault(short))?;
         Ok(Behind {
             value,
             next: self.pos + 1 + width.bytes(),

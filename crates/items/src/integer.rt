@@ -1,22 +1,19 @@
 // The integer kinds that a number can be asked as, each by its range.
 ghost use Rattle.std.specs.Prelude.{◌≡◌, ℤ, pos, negsuc, Result};
-ghost use Rattle.std.specs.declared.num.TryFromIntError.{TryFromIntError};
 ghost use Rattle.std.specs.Option.{option_map};
 ghost use Rattle.std.specs.Result.{result_ok};
 ghost use Rattle.std.proofs.Common.{rules};
 ghost use Rattle.items.specs.Ranges.{Range, held_in};
 
-use std::num::TryFromIntError;
-
 // A kind of integers: those of a range.
-pub trait IntegerRange: TryFrom<i128, Error = TryFromIntError> {
+pub trait IntegerRange: TryFrom<i128, Error: Drop> {
     ghost range: { Range };
 
     // The integer that a value is.
     ghost worth: { Self → ℤ };
 
     // A number becomes one of this kind where it is in the range.
-    ghost holds: { (n : ℤ) (r : Result Self TryFromIntError) → Self.try_from_gives n r → option_map worth (result_ok r) ≡ held_in range n };
+    ghost holds: { (n : ℤ) (r : Result Self Self.Error) → Self.try_from_gives n r → option_map worth (result_ok r) ≡ held_in range n };
 }
 
 impl IntegerRange for u8 {

@@ -44,6 +44,8 @@ impl<'a> Buffer<'a> {
     }
 
     // Reads an item of the kind asked.
+    // Inlined, so that a kind known at the call is not asked again for each item.
+    #[inline(always)]
     pub fn read_item(&mut self, kind: ItemKind) -> Result<Item<'a>, ItemFault>
         ensures { Reads shown result self.old self.new (an_item kind) }
     {

@@ -22,12 +22,18 @@ revalued_set [] i v d = refl
 revalued_set (x ∷ xs) zero v d = refl
 revalued_set (x ∷ xs) (suc i) v d = ap (λ ys. x ∷ ys) (revalued_set xs i v d)
 
+pub take_revalued : {K V : Type 0} (n : ℕ) (xs : List (Entry K V)) (i : ℕ) (v : V) → take n (revalued xs i v) ≡ revalued (take n xs) i v
+take_revalued zero xs i v = refl
+take_revalued (suc n) [] i v = refl
+take_revalued (suc n) (x ∷ xs) zero v = refl
+take_revalued (suc n) (x ∷ xs) (suc i) v = ap (λ ys. x ∷ ys) (take_revalued n xs i v)
+
 -- where the first element that passes stands
 at_position : {X : Type 0} (p : X → Bool) (xs : List X) (i : ℕ) → position p xs ≡ Some i → i ≡ position_or_len p xs
 at_position p xs i e = grind (arith, nat_tests, e)
 
 -- an element that is not found
-missed : {X : Type 0} (p : X → Bool) (xs : List X) → position p xs ≡ None → find p xs ≡ None
+pub missed : {X : Type 0} (p : X → Bool) (xs : List X) → position p xs ≡ None → find p xs ≡ None
 missed p xs e =
     let past : length xs ≤ position_or_len p xs = grind (arith, nat_tests, e) in
     find_at p xs ∙ slice_get_past xs (position_or_len p xs) past
@@ -38,15 +44,15 @@ none_else (Some x) = refl
 
 module _ {K : Type 0} (same : K → K → Bool) (laws : Laws same) where
   -- keys that are the same tell alike
-  agree : (a b x : K) → same a b ≡ true → same x a ≡ same x b
-  agree a b x t = both_ways (same x a) (same x b) (λ p. laws.transitive x a b p t) (λ p. laws.transitive x b a p (laws.symmetric a b t))
+  pub agree : (x a b : K) → same a b ≡ true → same x a ≡ same x b
+  agree x a b t = both_ways (same x a) (same x b) (λ p. laws.transitive x a b p t) (λ p. laws.transitive x b a p (laws.symmetric a b t))
 
   agree_left : (a b x : K) → same a b ≡ true → same a x ≡ same b x
   agree_left a b x t = both_ways (same a x) (same b x) (laws.transitive b a x (laws.symmetric a b t)) (laws.transitive a b x t)
 
   found_alike : {V : Type 0} (a b : K) (xs : List (Entry K V)) → same a b ≡ true → find (λ x. same x.key a) xs ≡ find (λ x. same x.key b) xs
   found_alike a b [] t = refl
-  found_alike a b (x ∷ xs) t = cc (agree a b x.key t, found_alike a b xs t)
+  found_alike a b (x ∷ xs) t = cc (agree x.key a b t, found_alike a b xs t)
 
 module _ {K V : Type 0} (same : K → K → Bool) where
   -- what a put of a known key comes to
@@ -69,7 +75,7 @@ module _ {K V : Type 0} (same : K → K → Bool) where
 
   module _ (laws : Laws same) where
     -- another value in the first entry with the key
-    replaced : (key : K) (v : V) (xs : List (Entry K V)) (i : ℕ) (d : Entry K V) → seek same key xs ≡ Some i → Finds same key v xs (rewritten xs i v d)
+    pub replaced : (key : K) (v : V) (xs : List (Entry K V)) (i : ℕ) (d : Entry K V) → seek same key xs ≡ Some i → Finds same key v xs (rewritten xs i v d)
     replaced key v xs i d e q = by (same key q) refl
       where
         by : (u : Bool) → same key q ≡ u → value_of same q (rewritten xs i v d) ≡ cond u (Some v) (value_of same q xs)

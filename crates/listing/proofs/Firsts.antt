@@ -49,7 +49,7 @@ pub first_from_span : (id i : ℕ) (x : SpanRow) (xs : List SpanRow) → first_f
 first_from_span id i x xs = refl
 
 -- the search finds the first span with the number
-is_first : (id : ℕ) (spans : List SpanRow) → IsFirst spans id (first_with id spans)
+pub is_first : (id : ℕ) (spans : List SpanRow) → IsFirst spans id (first_with id spans)
 is_first id spans = by (nat_lt (position_or_len (has_number id) spans) (length spans)) refl
   where
     before : NoneBelow spans id (position_or_len (has_number id) spans)

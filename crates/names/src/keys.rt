@@ -10,15 +10,17 @@ use crate::table::Name;
 
 // Fields that are found by their names.
 pub trait Named: Sized {
-    ghost named: { Self → AnyName };
-
     ghost found: { List ℕ → Maybe Self };
 
     fn from_bytes(bytes: &[u8]) -> Option<Self>
         ensures { result ≡ found bytes.now };
+}
 
-    // Each field is found by its own name and by nothing else.
-    ghost tells: { Tells named found };
+// Fields that have a name each, and are found by it and by nothing else.
+pub trait NamedAlone: Named {
+    ghost named: { Self → AnyName };
+
+    ghost tells: { Tells named Self.found };
 }
 
 // A field of a record that has a list of them, each of a name of its own.
@@ -40,14 +42,16 @@ pub trait Key: Copy + 'static {
 }
 
 impl<K: Key> Named for K {
-    ghost named = { K.key_name };
-
     ghost found = { λ t. key_with K.key_name t K.keys };
 
     #[tactic(auto, unfolding(crate::specs::Keys::key_with))]
     fn from_bytes(bytes: &[u8]) -> Option<K> {
         K::all().iter().copied().find(|key| key.name().is(bytes))
     }
+}
+
+impl<K: Key> NamedAlone for K {
+    ghost named = { K.key_name };
 
     ghost tells = { record { by_name = K.first; alone = found_alone K.key_name K.keys } };
 }
@@ -239,8 +243,6 @@ pub enum AttributeAnyKey {
 }
 
 impl Named for AttributeAnyKey {
-    ghost named = { attribute_name };
-
     ghost found = { attribute_with };
 
     fn from_bytes(bytes: &[u8]) -> Option<AttributeAnyKey> {
@@ -250,6 +252,10 @@ impl Named for AttributeAnyKey {
             AttributeArrayKey::from_bytes(bytes).map(AttributeAnyKey::Single)
         }
     }
+}
+
+impl NamedAlone for AttributeAnyKey {
+    ghost named = { attribute_name };
 
     ghost tells = { attribute_tells };
 }
@@ -259,19 +265,21 @@ impl Named for AttributeAnyKey {
 pub struct ValuesKey;
 
 impl Named for ValuesKey {
-    ghost named = { values_name };
-
     ghost found = { values_with };
 
     fn from_bytes(bytes: &[u8]) -> Option<ValuesKey> {
         Name::Values.is(bytes).then_some(ValuesKey)
     }
+}
+
+impl NamedAlone for ValuesKey {
+    ghost named = { values_name };
 
     ghost tells = { values_tells };
 }
 
 // The law of a kind of fields.
-fn tells<K: Named>()
+fn tells<K: NamedAlone>()
     ensures { Tells K.named K.found }
 {}
 

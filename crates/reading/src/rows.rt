@@ -1,14 +1,14 @@
 // The rows of a listing, from what is told of a payload.
 ghost use Rattle.std.specs.Prelude.{◌≡◌};
 ghost use Rattle.trees.specs.Payloads.{v04};
-ghost use Rattle.reading.specs.Making.{Making, made};
+ghost use Rattle.reading.specs.Making.{Making, held, made_by};
 ghost use Rattle.reading.specs.Rows.{HandsOn};
 
 use crate::receiver::RowReceiver;
 use crate::v04::read_payload;
 use faults::PayloadFault;
 use listing::row::SpanRow;
-use trees::keys::{IdKey, TimeKey};
+use trees::keys::{IdKey, SignedKey};
 use trees::receiver::Receiver;
 use trees::step::Step;
 
@@ -37,16 +37,22 @@ impl<'r, T: RowReceiver> Receiver for Rows<'r, T> {
 
     ghost state = { λ s. record { row = s.row; whole = T.RowReceiver.state s.to.now; lender = s.to.ghost_name } };
 
-    ghost act = { λ _. made T.RowReceiver.rowed T.RowReceiver.ended };
+    ghost act = { λ _. made_by held T.RowReceiver.rowed T.RowReceiver.ended };
 
+    // Inlined, so that no step is made that is not looked at here.
+    #[inline(always)]
     fn take(&mut self, _window: &[u8], step: Step<'_>) {
         match step {
             Step::BeginSpan => self.row = SpanRow::default(),
             Step::Id(IdKey::TraceId, id) => self.row.trace_id = id,
             Step::Id(IdKey::SpanId, id) => self.row.span_id = id,
             Step::Id(IdKey::ParentId, id) => self.row.parent_id = id,
-            Step::Signed(TimeKey::Start, time) => self.row.start = time,
-            Step::Signed(TimeKey::Duration, time) => self.row.duration = time,
+            Step::Signed(SignedKey::Start, time) => self.row.start = time,
+            Step::Signed(SignedKey::Duration, time) => self.row.duration = time,
+            Step::Signed(SignedKey::Error, error) => {
+                // more than 32 bits are 0 in a row
+                self.row.error = i32::try_from(error).unwrap_or(0);
+            }
             Step::Error(error) => self.row.error = error,
             Step::EndSpan => self.to.span(self.row),
             Step::EndTrace => self.to.trace(),

@@ -9,7 +9,7 @@ ghost use Rattle.items.specs.Reads.{raised, nothing};
 ghost use Rattle.faults.specs.declared.SpanFault.TheVariants.{Own};
 ghost use Rattle.trees.specs.Payloads.{text_field, id_field, time_field, field_by, a_field, a_span};
 ghost use Rattle.trees.specs.Records.{nullable, a_map};
-ghost use Rattle.trees.specs.Steps.{on_step, signed_of, tell_pairs, tell_field, tell_span};
+ghost use Rattle.trees.specs.Steps.{on_step, tell_pairs, tell_field, tell_span};
 ghost use Rattle.trees.specs.Tellings.{Tells};
 ghost use Rattle.trees.specs.Tree.{SpanField};
 
@@ -25,7 +25,7 @@ use maps::pairs::{ItemPairs, PairReader, TextTexts};
 use names::keys::SpanKey;
 use records::event::Events;
 use records::link::Links;
-use trees::keys::{IdKey, PairKey, TextKey, TimeKey};
+use trees::keys::{IdKey, PairKey, SignedKey, TextKey};
 use trees::receiver::Receiver;
 use trees::repeated::{Repeated, read_times};
 use trees::step::Step;
@@ -69,8 +69,8 @@ fn read_id<R: Receiver>(key: IdKey, from: &mut Telling<'_, '_, R>) -> Result<(),
 }
 
 // Reads a time, or null for 0.
-fn read_time<R: Receiver>(key: TimeKey, from: &mut Telling<'_, '_, R>) -> Result<(), SpanFault>
-    ensures { Tells R.Receiver tell_field nothing result from.old from.new (λ bytes at. raised Own (time_field (signed_of key) bytes at)) }
+fn read_time<R: Receiver>(key: SignedKey, from: &mut Telling<'_, '_, R>) -> Result<(), SpanFault>
+    ensures { Tells R.Receiver tell_field nothing result from.old from.new (λ bytes at. raised Own (time_field key bytes at)) }
 {
     let number: i64 = read_nullable_integer(&mut from.buf, 0)?;
     from.take(Step::Signed(key, number));
@@ -92,6 +92,8 @@ where
 
 // Begins an array, or null for an empty one; answers how many elements follow.
 // What follows is two lines for links and two for events, whose faults rise by `From`s of their own: one function for both is no plainer.
+// Inlined: null is a common list, and nothing follows it.
+#[inline(always)]
 fn begin_array<R: Receiver>(
     begin: Step<'_>,
     from: &mut Telling<'_, '_, R>,
@@ -119,8 +121,8 @@ fn read_by_key<R: Receiver>(key: SpanKey, from: &mut Telling<'_, '_, R>) -> Resu
         SpanKey::TraceId => read_id(IdKey::TraceId, from)?,
         SpanKey::SpanId => read_id(IdKey::SpanId, from)?,
         SpanKey::ParentId => read_id(IdKey::ParentId, from)?,
-        SpanKey::Start => read_time(TimeKey::Start, from)?,
-        SpanKey::Duration => read_time(TimeKey::Duration, from)?,
+        SpanKey::Start => read_time(SignedKey::Start, from)?,
+        SpanKey::Duration => read_time(SignedKey::Duration, from)?,
         SpanKey::Error => {
             let error: i32 = read_nullable_integer(&mut from.buf, 0)?;
             from.take(Step::Error(error));

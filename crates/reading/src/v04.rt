@@ -11,6 +11,7 @@ ghost use Rattle.trees.specs.Steps.{tell_span, tell_trace, tell_payload};
 ghost use Rattle.trees.specs.Tellings.{Tells, Loads};
 ghost use Rattle.trees.specs.Tree.{SpanField};
 
+pub use crate::plain::from_slice;
 use crate::span::read_span;
 use faults::{PayloadFault, RecordFault};
 use items::buffer::Buffer;

@@ -3,9 +3,8 @@
 
 use faults::PayloadFault;
 use hexline::bytes_of;
-use listing::row::SpanRow;
-use reading::receiver::RowReceiver;
-use reading::rows::from_slice;
+use reading::receiver::{Receiver, Span};
+use reading::v04::from_slice;
 use std::fmt;
 use std::io::{BufRead, BufReader};
 
@@ -23,23 +22,15 @@ impl Summary {
     }
 }
 
-impl RowReceiver for Summary {
-    ghost Meaning = { Unit {0} };
-
-    ghost state = { λ _. tt };
-
-    ghost rowed = { λ m _. m };
-
-    ghost ended = { λ m. m };
-
-    fn span(&mut self, row: SpanRow) {
+impl Receiver for Summary {
+    fn span(&mut self, span: Span) {
         self.spans = self.spans.saturating_add(1);
-        self.mix(row.trace_id);
-        self.mix(row.span_id);
-        self.mix(row.parent_id);
-        self.mix(row.start.cast_unsigned());
-        self.mix(row.duration.cast_unsigned());
-        self.mix(i64::from(row.error).cast_unsigned());
+        self.mix(span.trace_id);
+        self.mix(span.span_id);
+        self.mix(span.parent_id);
+        self.mix(span.start.cast_unsigned());
+        self.mix(span.duration.cast_unsigned());
+        self.mix(i64::from(span.error).cast_unsigned());
     }
 
     fn trace(&mut self) {

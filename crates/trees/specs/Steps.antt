@@ -8,8 +8,6 @@ use Rattle.trees.specs.declared.keys.TextKey.{TextKey}
 use Rattle.trees.specs.declared.keys.IdKey.{IdKey}
 use Rattle.trees.specs.declared.keys.SignedKey.{SignedKey}
 use Rattle.trees.specs.declared.keys.SignedKey.TheVariants as signed_key
-use Rattle.trees.specs.declared.keys.TimeKey.{TimeKey}
-use Rattle.trees.specs.declared.keys.TimeKey.TheVariants as time_key
 use Rattle.trees.specs.declared.keys.PairKey.{PairKey}
 use Rattle.trees.specs.declared.keys.LinkIdKey.{LinkIdKey}
 use Rattle.trees.specs.declared.step.Step.{Step}
@@ -63,11 +61,6 @@ single_of (single.Boolean b) = truth b
 single_of (single.Integer z) = whole z
 single_of (single.Double b) = double b
 
--- the number with a sign that a time is
-abbrev pub signed_of : TimeKey → SignedKey
-signed_of time_key.Start = signed_key.Start
-signed_of time_key.Duration = signed_key.Duration
-
 -- what a step of the program says
 abbrev pub on_step : Step → On
 on_step (step.Entry p) = entry (piece_of p)
@@ -79,7 +72,7 @@ on_step (step.Attribute p) = on_attribute (piece_of p)
 on_step (step.Value v) = on_value (single_of v)
 on_step step.BeginSpan = begin_span
 on_step (step.Id k n) = on_id k (pos n)
-on_step (step.Signed k z) = on_signed (signed_of k) z
+on_step (step.Signed k z) = on_signed k z
 on_step (step.Error z) = on_signed signed_key.Error z
 on_step (step.BeginPairs k) = begin_pairs k
 on_step step.BeginLinks = begin_links
@@ -91,7 +84,7 @@ on_step step.BeginEvents = begin_events
 on_step step.BeginEvent = begin_event
 on_step (step.Time n) = on_time (pos n)
 on_step step.BeginAttributes = begin_attributes
-on_step (step.EndAttribute t) = end_attribute (type_code t)
+on_step (step.EndAttribute n) = end_attribute n
 on_step step.EndEvent = end_event
 on_step step.EndSpan = end_span
 on_step step.EndTrace = end_trace

@@ -18,7 +18,7 @@ pub enum IdKey {
     ParentId,
 }
 
-// The numbers of a span with a sign, as the definitions say them.
+// The numbers of a span with a sign.
 #[derive(Clone, Copy, Debug, PartialEq, Eq)]
 pub enum SignedKey {
     Start,
@@ -26,12 +26,8 @@ pub enum SignedKey {
     Error,
 }
 
-// Those of 64 bits, as a step tells them; the error has 32 and a step of its own.
-#[derive(Clone, Copy, Debug, PartialEq, Eq)]
-pub enum TimeKey {
-    Start,
-    Duration,
-}
+// Another name of it.
+pub use SignedKey as TimeKey;
 
 // The maps of pairs: three of a span, and the attributes of a link.
 #[derive(Clone, Copy, Debug, PartialEq, Eq)]

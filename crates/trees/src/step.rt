@@ -3,7 +3,7 @@ ghost use Rattle.std.specs.Prelude.{◌≡◌};
 ghost use Rattle.trees.specs.Steps.{type_code, single_of};
 ghost use Rattle.trees.specs.Tree.{type_number};
 
-use crate::keys::{IdKey, LinkIdKey, PairKey, TextKey, TimeKey};
+use crate::keys::{IdKey, LinkIdKey, PairKey, SignedKey, TextKey};
 use items::item::Item;
 use items::part::Part;
 
@@ -66,7 +66,8 @@ pub enum Step<'a> {
     Value(AttributeArrayValue<'a>),
     BeginSpan,
     Id(IdKey, u64),
-    Signed(TimeKey, i64),
+    Signed(SignedKey, i64),
+    // the error, in 32 bits
     Error(i32),
     BeginPairs(PairKey),
     BeginLinks,
@@ -78,8 +79,8 @@ pub enum Step<'a> {
     BeginEvent,
     Time(u64),
     BeginAttributes,
-    // an attribute's values are whole; its type
-    EndAttribute(ValueType),
+    // an attribute's values are whole; its type number
+    EndAttribute(u8),
     EndEvent,
     EndSpan,
     EndTrace,

@@ -24,6 +24,8 @@ impl<'a, 'r, R: Receiver> Telling<'a, 'r, R> {
     }
 
     // Tells a step.
+    // Inlined, so that no step is made that the receiver does not look at.
+    #[inline(always)]
     pub fn take(&mut self, step: Step<'_>)
         ensures { Told R.Receiver (on_step step.entry) self.old self.new }
     {

@@ -32,7 +32,8 @@ returns-in-Ok g c =
     let x = opened (λ w. an_attribute_field w.now) (λ w. tell_attribute_field (act w.now)) attribute_field w₁ c.in_ok-a.ensures.takes in
     let y = opened (λ w. an_attribute_field w.now) (λ w. tell_attribute_field (act w.now)) attribute_field w₂ c.in_ok-b.ensures.takes in
     let v = told_judgement x.tree y.tree x.answers y.answers ∙ sym c.in-Ok.ensures in
-    let e = subst (λ w. g.R.Receiver.state c.take-in-Ok.new.self.to.now ≡ act w.now (g.R.Receiver.state c.read_field-2.new.from.to.now) (end_attribute (type_code c.in-Ok.kind))) w₃ c.take-in-Ok.ensures.told in
+    let told = subst (λ n. g.R.Receiver.state c.take-in-Ok.new.self.to.now ≡ act c.read_field-2.new.from.buf.window.now (g.R.Receiver.state c.read_field-2.new.from.to.now) (end_attribute n)) c.number.ensures c.take-in-Ok.ensures.told in
+    let e = subst (λ w. g.R.Receiver.state c.take-in-Ok.new.self.to.now ≡ act w.now (g.R.Receiver.state c.read_field-2.new.from.to.now) (end_attribute (type_code c.in-Ok.kind))) w₃ told in
     record {
       takes = attribute_done (act c.args.from.now.buf.window.now) (piece_of c.args.key) c.args.from.now.buf.window.now c.args.from.now.buf.pos x.tree y.tree f x.reads y.reads (g.R.Receiver.state c.args.from.now.to.now) c.take.ensures.told x.works y.works e v ∙ ap (λ b. got (with (g.R.Receiver.state c.take-in-Ok.new.self.to.now) tt) b.pos) (sym c.take-in-Ok.ensures.read);
       window = ap (λ b. b.window) c.take-in-Ok.ensures.read ∙ w₃;
